@@ -1,0 +1,5 @@
+pub mod Thins
+pub mod Totals
+pub mod Calls
+pub mod Unique
+pub mod Cases

@@ -1,0 +1,21 @@
+-- What simplify's contract permits is one outcome: the answer and every element of both lists.
+use mathlib.Core.Path.{_≡_, sym, ap}
+use mathlib.Core.List.{List}
+use Prim.Native.Nat.{ℕ}
+use lib.Ieee.{Float}
+use Rattle.refusal.proofs.Unique.{one-refusal, never-both, same-values}
+use Rattle.path.specs.Left.{left}
+use Rattle.path.proofs.Lefts.{one-left}
+use Rattle.path_simplify.specs.declared.Simplified.{Simplified}
+use Rattle.path_simplify.specs.declared.Simplified.the-variants as S
+use Rattle.path_simplify.specs.Call.{said, simplifyLeft}
+
+simplified-told : (r t : Simplified) → said r ≡ said t → r ≡ t
+simplified-told (S.Wrote p s d) (S.Wrote q u e) h = let k = same-values h in cc
+simplified-told (S.Wrote p s d) (S.Refused t) h = absurd (never-both _ t h)
+simplified-told (S.Refused r) (S.Wrote q u e) h = absurd (never-both _ r (sym h))
+simplified-told (S.Refused r) (S.Refused t) h = ap S.Refused (one-refusal r t h)
+
+pub one-simplify : (ps : List Float) (ss : List ℕ) (threshold : Float) (op : List Float) (os : List ℕ) (r t : Simplified) {a b : List Float} {d e : List ℕ}
+    → left (said r) a d ≡ simplifyLeft ps ss threshold op os → left (said t) b e ≡ simplifyLeft ps ss threshold op os → (r ≡ t) × (a ≡ b) × (d ≡ e)
+one-simplify ps ss threshold op os r t = one-left said simplified-told r t

@@ -1,0 +1,3 @@
+pub mod Simplify
+pub mod Call
+pub mod Cases

@@ -1,0 +1,307 @@
+// Leaving points out of strokes: path_simplify of the source, over lent lists.
+use path::Place;
+use path::coordinates_good;
+use path::counted;
+use path::end_of;
+use path::point_at;
+use path::put_number;
+use path::put_point;
+use path::shaped;
+use refusal::MOST_TO_SIMPLIFY;
+use refusal::Refusal;
+use refusal::Verdict;
+use vector::Vector;
+ghost use mathlib.Core.Path.{_≡_};
+ghost use Prim.Native.Nat.{_+_, _-_, _/_, _≤_, _<_};
+ghost use lib.ListN.{length};
+ghost use lib.Dec.{leb};
+ghost use Rattle.refusal.specs.Limits.{mostPoints, mostToSimplify};
+ghost use Rattle.path.specs.Strokes.{pointAt};
+ghost use Rattle.path.specs.Laid.{putPoints, pen, inked, out, push, pushAll, joined};
+ghost use Rattle.path.specs.Left.{left};
+ghost use Rattle.path_simplify.specs.Simplify.{fartherOf, farthest, splitsAt, thin, thinned, simplified, distances, simplifiedOf, placeOf};
+ghost use Rattle.path_simplify.specs.Call.{said, shortOf, roomFor, thresholdGood, simplifyVerdict, simplifyLeft};
+
+// What simplify wrote and how many distances it measured, or why it was refused.
+pub enum Simplified {
+    Wrote {
+        points: usize,
+        starts: usize,
+        distances: usize,
+    },
+    Refused(Refusal),
+}
+
+// The farthest point so far: its place, and how far it is.
+pub struct Far {
+    pub at: usize,
+    pub far: f64,
+}
+
+// Where the next point goes, and how many distances were measured.
+pub struct Kept {
+    pub points: usize,
+    pub distances: usize,
+}
+
+// Where the next point and the next start go, and how many distances were measured.
+pub struct Progress {
+    pub points: usize,
+    pub starts: usize,
+    pub distances: usize,
+}
+
+// The farther of two, the first where they are level.
+fn farther(best: Far, i: usize, d: f64) -> Far
+    ensures { λ r. ⌜ r ≡ fartherOf best i d ⌝ }
+{
+    if d > best.far {
+        return Far { at: i, far: d };
+    }
+    best
+}
+
+// The first farthest of the points between lo and hi from the segment between those two.
+fn find_far(points: &[f64], lo: usize, hi: usize) -> Far
+    requires { ⌜ lo < hi ⌝ }
+    ensures { λ r. ⌜ r ≡ farthest (pointAt (now (points .entry))) lo hi ⌝ }
+{
+    let a = point_at(points, lo);
+    let b = point_at(points, hi);
+    let mut best = Far { at: lo, far: 0.0 };
+    let mut i = lo + 1;
+    while i < hi {
+        let p = point_at(points, i);
+        best = farther(best, i, p.segment_distance(a, b));
+        i += 1;
+    }
+    best
+}
+
+// Whether the farthest splits the points from lo on: strictly above the threshold.
+fn splits(f: Far, lo: usize, threshold: f64) -> bool
+    ensures { λ r. ⌜ r ≡ splitsAt f lo threshold ⌝ }
+{
+    let m = f.at;
+    if f.far > threshold {
+        return lo < m;
+    }
+    false
+}
+
+// Writes what is kept of the points from lo up to hi, but for the last, by recursion on the falling length.
+fn keep(points: &[f64], lo: usize, hi: usize, threshold: f64, out: &mut [f64], at: usize) -> Kept
+    requires { ⌜ (at + length (thin (hi - lo) threshold (pointAt (now points)) lo hi .points) ≤ mostPoints) × (thin (hi - lo) threshold (pointAt (now points)) lo hi .measured ≤ 4294967296) ⌝ }
+    ensures { λ r. ⌜ (pen (now (out .exit)) (r .points) ≡ inked putPoints (pen (now (out .entry)) at) (thin (hi - lo) threshold (pointAt (now (points .entry))) lo hi .points))
+        × (r .distances ≡ thin (hi - lo) threshold (pointAt (now (points .entry))) lo hi .measured) ⌝ }
+{
+    if hi <= lo {
+        return Kept {
+            points: at,
+            distances: 0,
+        };
+    }
+    let f = find_far(points, lo, hi);
+    let m = f.at;
+    if splits(f, lo, threshold) {
+        let l = keep(points, lo, m, threshold, out, at);
+        let r = keep(points, m, hi, threshold, out, l.points);
+        return Kept {
+            points: r.points,
+            distances: hi - lo - 1 + l.distances + r.distances,
+        };
+    }
+    put_point(out, at, point_at(points, lo));
+    Kept {
+        points: at + 1,
+        distances: hi - lo - 1,
+    }
+}
+
+// Writes what is kept of a stroke from place a up to e, its last point too.
+fn write_thinned(
+    points: &[f64],
+    a: usize,
+    e: usize,
+    threshold: f64,
+    out: &mut [f64],
+    at: usize,
+) -> Kept
+    requires { ⌜ (a < e) × (at + length (thinned threshold (pointAt (now points)) a e .points) ≤ mostPoints) × (thinned threshold (pointAt (now points)) a e .measured ≤ 4294967296) ⌝ }
+    ensures { λ r. ⌜ (pen (now (out .exit)) (r .points) ≡ inked putPoints (pen (now (out .entry)) at) (thinned threshold (pointAt (now (points .entry))) a e .points))
+        × (r .distances ≡ thinned threshold (pointAt (now (points .entry))) a e .measured) ⌝ }
+{
+    let hi = e - 1;
+    let k = keep(points, a, hi, threshold, out, at);
+    let o = k.points;
+    put_point(out, o, point_at(points, hi));
+    Kept {
+        points: o + 1,
+        distances: k.distances,
+    }
+}
+
+// Writes a stroke and its start; of an empty one nothing.
+fn write_stroke(
+    points: &[f64],
+    a: usize,
+    e: usize,
+    threshold: f64,
+    out_points: &mut [f64],
+    out_starts: &mut [u32],
+    w: Progress,
+) -> Progress
+    requires { ⌜ (w .points + length (thinned threshold (pointAt (now points)) a e .points) ≤ mostPoints) × (w .starts ≤ mostPoints)
+        × (w .distances + thinned threshold (pointAt (now points)) a e .measured ≤ 4294967296) ⌝ }
+    ensures { λ r. ⌜ (out (now («out_points» .exit)) (now («out_starts» .exit)) (placeOf r)
+        ≡ push putPoints (out (now («out_points» .entry)) (now («out_starts» .entry)) (placeOf w)) (thinned threshold (pointAt (now (points .entry))) a e .points))
+        × (r .distances ≡ w .distances + thinned threshold (pointAt (now (points .entry))) a e .measured) ⌝ }
+{
+    if e <= a {
+        return w;
+    }
+    let at = w.points;
+    let k = w.starts;
+    put_number(out_starts, k, at as u32);
+    let t = write_thinned(points, a, e, threshold, out_points, at);
+    Progress {
+        points: t.points,
+        starts: k + 1,
+        distances: w.distances + t.distances,
+    }
+}
+
+// Writes every stroke.
+fn write_strokes(
+    points: &[f64],
+    starts: &[u32],
+    threshold: f64,
+    out_points: &mut [f64],
+    out_starts: &mut [u32],
+) -> Progress
+    requires { ⌜ (length (joined (simplified (simplifiedOf threshold (now points) (now starts)))) ≤ mostPoints) × (length (now starts) ≤ mostPoints)
+        × (distances (simplifiedOf threshold (now points) (now starts)) ≤ 4294967296) ⌝ }
+    ensures { λ r. ⌜ (out (now («out_points» .exit)) (now («out_starts» .exit)) (placeOf r)
+        ≡ pushAll putPoints (out (now («out_points» .entry)) (now («out_starts» .entry)) (record { points = 0; starts = 0 })) (simplified (simplifiedOf threshold (now (points .entry)) (now (starts .entry)))))
+        × (r .distances ≡ distances (simplifiedOf threshold (now (points .entry)) (now (starts .entry)))) ⌝ }
+{
+    let mut w = Progress {
+        points: 0,
+        starts: 0,
+        distances: 0,
+    };
+    let mut i = 0;
+    while i < starts.len() {
+        let a = starts[i] as usize;
+        let e = end_of(starts, i, points.len() / 3);
+        w = write_stroke(points, a, e, threshold, out_points, out_starts, w);
+        i += 1;
+    }
+    w
+}
+
+// Whether a stroke from place a up to e is not too long to simplify.
+fn short_stroke(a: usize, e: usize) -> bool
+    ensures { λ r. ⌜ r ≡ leb (e - a) mostToSimplify ⌝ }
+{
+    if a < e {
+        return e - a <= MOST_TO_SIMPLIFY;
+    }
+    true
+}
+
+// Whether none of the strokes of n points is.
+fn short_strokes(starts: &[u32], n: usize) -> bool
+    ensures { λ r. ⌜ r ≡ shortOf n (now (starts .entry)) ⌝ }
+{
+    let mut j = 0;
+    while j < starts.len() {
+        let a = starts[j] as usize;
+        let e = end_of(starts, j, n);
+        if !short_stroke(a, e) {
+            return false;
+        }
+        j += 1;
+    }
+    true
+}
+
+// Whether a threshold is not NaN and not below 0.
+fn threshold_good(threshold: f64) -> bool
+    ensures { λ r. ⌜ r ≡ thresholdGood threshold ⌝ }
+{
+    0.0 <= threshold
+}
+
+// Whether there is room for as many numbers and starts as are read.
+fn fits(numbers: usize, starts: usize, room: usize, start_room: usize) -> bool
+    ensures { λ r. ⌜ r ≡ roomFor numbers starts room «start_room» ⌝ }
+{
+    if room < numbers {
+        return false;
+    }
+    starts <= start_room
+}
+
+// The tests of a call, in the order of their numbers.
+fn simplify_verdict(
+    points: &[f64],
+    starts: &[u32],
+    threshold: f64,
+    room: usize,
+    start_room: usize,
+) -> Verdict
+    ensures { λ r. ⌜ r ≡ simplifyVerdict (now (points .entry)) (now (starts .entry)) threshold room «start_room» ⌝ }
+{
+    if !shaped(points, starts) {
+        return Verdict::Refused(Refusal::Shape);
+    }
+    let n = points.len() / 3;
+    if !counted(n, starts.len()) {
+        return Verdict::Refused(Refusal::Count);
+    }
+    if !short_strokes(starts, n) {
+        return Verdict::Refused(Refusal::Count);
+    }
+    if !coordinates_good(points) {
+        return Verdict::Refused(Refusal::Number);
+    }
+    if !threshold_good(threshold) {
+        return Verdict::Refused(Refusal::Number);
+    }
+    if !fits(points.len(), starts.len(), room, start_room) {
+        return Verdict::Refused(Refusal::Room);
+    }
+    Verdict::Accepted
+}
+
+// Leaves the points out of every stroke that are no farther than the threshold.
+pub fn simplify(
+    points: &[f64],
+    starts: &[u32],
+    threshold: f64,
+    out_points: &mut [f64],
+    out_starts: &mut [u32],
+) -> Simplified
+    ensures { λ r. ⌜ left (said r) (now («out_points» .exit)) (now («out_starts» .exit))
+        ≡ simplifyLeft (now (points .entry)) (now (starts .entry)) threshold (now («out_points» .entry)) (now («out_starts» .entry)) ⌝ }
+{
+    let v = simplify_verdict(
+        points,
+        starts,
+        threshold,
+        out_points.len(),
+        out_starts.len(),
+    );
+    match v {
+        Verdict::Accepted => {
+            let w = write_strokes(points, starts, threshold, out_points, out_starts);
+            Simplified::Wrote {
+                points: w.points,
+                starts: w.starts,
+                distances: w.distances,
+            }
+        }
+        Verdict::Refused(r) => Simplified::Refused(r),
+    }
+}
