@@ -1,0 +1,5 @@
+pub mod Walks
+pub mod Tallies
+pub mod Calls
+pub mod Unique
+pub mod Halvings

@@ -1,0 +1,142 @@
+-- Laws of the walk. Assumes nothing.
+use mathlib.Core.Path.{_≡_, refl, sym, ap, _∙_}
+use mathlib.Core.Bool.{Bool, true, false, cond, true≢false}
+use mathlib.Core.List.{List, [], _∷_, _++_}
+use Prim.Native.Nat.{ℕ, zero, suc, _+_, _-_, _≤_, _<_}
+use native.Mathlib.Omega.{arith}
+use lib.ListN.{length, length-append}
+use lib.Ieee.{Float}
+use Rattle.vector.specs.declared.Vector.{Vector}
+use Rattle.path.specs.Strokes.{gather}
+use Rattle.path.specs.Laid.{putPoint, putPoints, Pen, pen, inked}
+use Rattle.path.proofs.Gathers.{gather-more, gather-none}
+use Rattle.path.proofs.Pushes.{ink-none, ink-append}
+use Rattle.path.proofs.Points.{points-lie, ink-more}
+use Rattle.path_adaptive.specs.declared.View.{View}
+use Rattle.path_adaptive.specs.declared.Shown.{Shown}
+use Rattle.path_adaptive.specs.Walk.{shownOf, middleOf, endsOf, Walk, none, one, stuck, join, halved, walk, walkFrom, strokeOf}
+
+-- ---- the walk where it ends, at the last depth, and at a halving
+
+module _ (view : View) (a b : Shown) where
+  pub walk-ends : (d : ℕ) → endsOf view a b ≡ true → walk d view a b ≡ one (b .here)
+  unfolding walk
+  walk-ends zero h = rw h
+  walk-ends (suc d) h = rw h
+
+  pub walk-stuck : (d : ℕ) → endsOf view a b ≡ false → d ≡ 0 → walk d view a b ≡ stuck
+  unfolding walk
+  walk-stuck zero h z = rw h
+  walk-stuck (suc d) h z = absurd (omega arith)
+
+  pub walk-half : (d : ℕ) (m : Shown) → endsOf view a b ≡ false → (d ≡ 0 → ⊥) → m ≡ middleOf view a b
+      → walk d view a b ≡ halved (join (walk (d - 1) view a m) (walk (d - 1) view m b))
+  unfolding walk
+  walk-half zero m h z f = absurd (z refl)
+  walk-half (suc d) m h z f = let k : suc d - 1 ≡ d = omega arith in rw (h, k, f)
+
+-- ---- two walks that come to their ends
+
+-- l and then r are w, with n halvings more
+pub record Both (n : ℕ) (l r w : Walk) : Type 0 where
+  pub calm : l .deep ≡ false
+  pub calm-after : r .deep ≡ false
+  pub points-are : w .points ≡ l .points ++ r .points
+  pub length-is : length (w .points) ≡ length (l .points) + length (r .points)
+  pub halvings-are : w .halvings ≡ n + l .halvings + r .halvings
+
+both-go : (l r : Walk) (x : Bool) → l .deep ≡ x → cond x true (r .deep) ≡ false → (l .deep ≡ false) × (r .deep ≡ false)
+both-go l r true e k = absurd (true≢false k)
+both-go l r false e k = (e, k)
+
+pub join-both : (l r w : Walk) → w ≡ join l r → w .deep ≡ false → Both 0 l r w
+unfolding join
+join-both l r w e h =
+    let g = both-go l r (l .deep) refl (rw e at h) in
+    let p : w .points ≡ l .points ++ r .points = rw (e, g .0) in
+    let d : w .halvings ≡ l .halvings + r .halvings = rw (e, g .0) in
+    record { calm = g .0; calm-after = g .1; points-are = p; length-is = ap length p ∙ length-append (l .points) (r .points); halvings-are = omega arith }
+
+pub half-both : (l r w : Walk) → w ≡ halved (join l r) → w .deep ≡ false → Both 1 l r w
+half-both l r w e h =
+    let b = join-both l r (join l r) refl (sym (ap (λ (x : Walk). x .deep) e) ∙ h) in
+    let p : w .points ≡ join l r .points = ap (λ (x : Walk). x .points) e in
+    let d : w .halvings ≡ 1 + join l r .halvings = ap (λ (x : Walk). x .halvings) e in
+    record {
+      calm = b .calm;
+      calm-after = b .calm-after;
+      points-are = p ∙ b .points-are;
+      length-is = ap length p ∙ b .length-is;
+      halvings-are = omega (arith, b .halvings-are);
+    }
+
+-- written one after the other
+pub both-ink : {n : ℕ} {l r w : Walk} → Both n l r w → (p q s : Pen Float) → q ≡ inked putPoints p (l .points) → s ≡ inked putPoints q (r .points) → s ≡ inked putPoints p (w .points)
+both-ink {n} {l} {r} b p q s f g = g ∙ rw (f, b .points-are) (ink-append points-lie p (l .points) (r .points))
+
+pub one-ink : (v : Vector) (w : Walk) → w ≡ one v → (b q : List Float) (o : ℕ) → q ≡ putPoint b o v → pen q (o + 1) ≡ inked putPoints (pen b o) (w .points)
+one-ink v w e b q o g = rw (g, e) (sym (ink-none points-lie (pen (putPoint b o v) (o + 1))) ∙ ink-more b o v [])
+
+-- ---- the spans over the points from place i up to e, and a stroke
+
+module _ (view : View) (at : ℕ → Vector) (i e : ℕ) where
+  pub from-more : (p q : Shown) → i < e → q ≡ shownOf view (at i)
+      → walkFrom view p (gather at i (e - i)) ≡ join (walk 64 view p q) (walkFrom view q (gather at (i + 1) (e - (i + 1))))
+  unfolding walkFrom
+  from-more p q h f = rw (gather-more at i e h, f)
+
+  pub from-none : (p : Shown) → e ≤ i → walkFrom view p (gather at i (e - i)) ≡ none
+  unfolding walkFrom
+  from-none p h = rw (gather-none at i e h)
+
+  pub stroke-none : e ≤ i → strokeOf view (gather at i (e - i)) ≡ none
+  unfolding strokeOf
+  stroke-none h = rw (gather-none at i e h)
+
+  pub stroke-some : (v : Vector) (p : Shown) → i < e → v ≡ at i → p ≡ shownOf view v
+      → strokeOf view (gather at i (e - i)) ≡ join (one v) (walkFrom view p (gather at (i + 1) (e - (i + 1))))
+  unfolding strokeOf
+  stroke-some v p h f g = rw (gather-more at i e h, g, f)
+
+-- ---- points and halvings
+
+-- where a walk comes to its end, so many points for so many read
+abbrev Counted : ℕ → Walk → Type 0
+Counted n w = w .deep ≡ false → length (w .points) ≡ n + w .halvings
+
+count-cond : (n : ℕ) (x : Bool) (l r : Walk) → Counted n l → Counted n r → Counted n (cond x l r)
+count-cond n true l r f g = f
+count-cond n false l r f g = g
+
+count-half : (l r : Walk) → Counted 1 l → Counted 1 r → Counted 1 (halved (join l r))
+count-half l r f g h =
+    let b = join-both l r (join l r) refl h in
+    let x = f (b .calm) in
+    let y = g (b .calm-after) in
+    omega (arith, b .length-is, b .halvings-are)
+
+walk-count : (view : View) (d : ℕ) (a b : Shown) → Counted 1 (walk d view a b)
+unfolding walk
+walk-count view zero a b = count-cond 1 (endsOf view a b) (one (b .here)) stuck (λ h. refl) (λ h. absurd (true≢false h))
+walk-count view (suc d) a b =
+    let l = walk d view a (middleOf view a b) in
+    let r = walk d view (middleOf view a b) b in
+    count-cond 1 (endsOf view a b) (one (b .here)) (halved (join l r)) (λ h. refl)
+    (count-half l r (walk-count view d a (middleOf view a b)) (walk-count view d (middleOf view a b) b))
+
+from-count : (view : View) (a : Shown) (vs : List Vector) → Counted (length vs) (walkFrom view a vs)
+unfolding walkFrom
+from-count view a [] h = refl
+from-count view a (v ∷ vs) h =
+    let b = join-both (walk 64 view a (shownOf view v)) (walkFrom view (shownOf view v) vs) _ refl h in
+    let x = walk-count view 64 a (shownOf view v) (b .calm) in
+    let y = from-count view (shownOf view v) vs (b .calm-after) in
+    omega (arith, b .length-is, b .halvings-are)
+
+pub stroke-count : (view : View) (s : List Vector) → strokeOf view s .deep ≡ false → length (strokeOf view s .points) ≡ length s + strokeOf view s .halvings
+unfolding strokeOf
+stroke-count view [] h = refl
+stroke-count view (v ∷ vs) h =
+    let b = join-both (one v) (walkFrom view (shownOf view v) vs) _ refl h in
+    let y = from-count view (shownOf view v) vs (b .calm-after) in
+    omega (arith, b .length-is, b .halvings-are)

@@ -1,0 +1,19 @@
+-- `middle` meets its contract.
+use borrow.Author.Needs.{needs}
+use Rattle.path_adaptive.proofs.middle.Statement.{statement}
+use Rattle.path_adaptive.proofs.middle.Tie as tie
+
+add-requires : tie.Need-add-requires
+add-requires c κs = search needs
+
+mul-scalar-requires : tie.Need-mul-scalar-requires
+mul-scalar-requires c κs = search needs
+
+show-requires : tie.Need-show-requires
+show-requires c κs = search needs
+
+returns : tie.Need-returns
+returns c = rw (c .show .ensures, c .before .mul-scalar .ensures, c .before .before .add .ensures)
+
+pub middle-spec : {M : Type 1} → statement M
+middle-spec = tie.close (tie.spec add-requires mul-scalar-requires show-requires returns)

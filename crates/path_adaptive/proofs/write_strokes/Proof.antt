@@ -1,0 +1,98 @@
+-- `write_strokes` meets its contract.
+use borrow.Author.Needs.{needs}
+use Rattle.path.proofs.Pushes.{push-turn, push-end, push-room, push-starts}
+use Rattle.path.specs.Laid.{putPoints, out, pushAll}
+use Rattle.path_adaptive.proofs.Tallies.{walks-more, walks-none, more-points, more-halvings, more-calm}
+use Rattle.path_adaptive.specs.Walk.{walksOf, adapted, halvingsOf, Calm, placeOf}
+use lib.ListN.{length, drop}
+use Prim.Native.Nat.{_+_, _-_, _≤_, zero-le}
+use native.Mathlib.Omega.{arith}
+use mathlib.Core.Path.{_≡_, refl, sym, ap, _∙_}
+use Rattle.path_adaptive.proofs.write_strokes.Statement.{statement}
+use Rattle.path_adaptive.proofs.write_strokes.Tie as tie
+
+abbrev Inv-loop : tie.InvT-loop
+Inv-loop view points starts out-points₀ out-starts₀ w₀ i₀ out-points out-starts w i = (i ≤ length starts) × (w .starts ≤ i) × (length out-points ≡ length out-points₀) × (length out-starts ≡ length out-starts₀)
+    × (pushAll putPoints (out out-points out-starts (placeOf w)) (adapted (walksOf view points (drop i starts))) ≡ pushAll putPoints (out out-points₀ out-starts₀ (placeOf w₀)) (adapted (walksOf view points starts)))
+    × (w .halvings + halvingsOf (walksOf view points (drop i starts)) ≡ halvingsOf (walksOf view points starts)) × Calm (walksOf view points (drop i starts))
+
+abbrev μ-loop : tie.MeasureT-loop
+μ-loop view points starts out-points₀ out-starts₀ w₀ i₀ out-points out-starts w i = length starts - i
+
+loop-holds : tie.Need-loop-holds Inv-loop μ-loop
+loop-holds c = (zero-le, zero-le, refl, refl, refl, omega arith, c .before .before .before .before .pre .0)
+
+mul-a : tie.Need-mul-a Inv-loop μ-loop
+mul-a c = search needs
+
+shared-slice-read-a : tie.Need-shared-slice-read-a Inv-loop μ-loop
+shared-slice-read-a c = search needs
+
+cast-a : tie.Need-cast-a Inv-loop μ-loop
+cast-a c = omega (arith, c .shared-slice-known3 .given (c .before .before .loop .i))
+
+end-of-requires : tie.Need-end-of-requires Inv-loop μ-loop
+end-of-requires c κs = search needs
+
+write-stroke-requires : tie.Need-write-stroke-requires Inv-loop μ-loop
+write-stroke-requires c κs =
+    let l = c .before .before .before .before .before in
+    let a = l .before .before .before .before .before .args in
+    let m = walks-more (a .view) (a .points .now) (a .starts .now) (l .loop .i) _ (search needs) (c .before .before .end-of .ensures) in
+    let o = out (l .loop .out-points) (l .loop .out-starts) (placeOf (l .loop .w)) in
+    let r = push-room putPoints o _ _ _ _ (ap (pushAll putPoints o) (sym (more-points m)) ∙ l .loop .inv .4) refl in
+    (more-calm m (l .loop .inv .6) .0, omega (arith, c .before .before .before .before .before .before .before .before .before .before .pre .1), omega (arith, c .before .before .before .before .before .before .before .before .before .before .pre .2), omega (arith, c .before .before .before .before .before .before .before .before .before .before .pre .3, more-halvings m, l .loop .inv .5))
+
+add-i : tie.Need-add-i Inv-loop μ-loop
+add-i c = omega arith
+
+loop-less : tie.Need-loop-less Inv-loop μ-loop
+loop-less c = omega arith
+
+loop-again : tie.Need-loop-again Inv-loop μ-loop
+loop-again c =
+    let w = c .before .before .before .before in
+    let l = c .before .before .before .before .before .before .before .before .before .before in
+    let a = l .before .before .before .before .before .args in
+    let m = walks-more (a .view) (a .points .now) (a .starts .now) (l .loop .i) _ (search needs) (c .before .before .before .before .before .before .before .end-of .ensures) in (
+      omega arith,
+      omega (arith, push-starts putPoints (out (l .loop .out-points) (l .loop .out-starts) (placeOf (l .loop .w))) _ _ (w .write-stroke .ensures .0)),
+      cc,
+      cc,
+      push-turn putPoints _ _ (more-points m) (w .write-stroke .ensures .0) ∙ l .loop .inv .4,
+      omega (arith, more-halvings m, w .write-stroke .ensures .1, l .loop .inv .5),
+      more-calm m (l .loop .inv .6) .1,
+    )
+
+same-length : tie.Need-same-length Inv-loop μ-loop
+same-length c = search needs
+
+same-length-2 : tie.Need-same-length-2 Inv-loop μ-loop
+same-length-2 c = search needs
+
+returns : tie.Need-returns Inv-loop μ-loop
+unfolding halvingsOf
+returns c =
+    let l = c .before in
+    let a = l .before .before .before .before .before .args in
+    let z = walks-none (a .view) (a .points .now) (a .starts .now) (l .loop .i) (search needs) in
+    (sym (push-end putPoints _ (ap adapted z)) ∙ l .loop .inv .4, omega (arith, ap halvingsOf z, l .loop .inv .5))
+
+pub write-strokes-spec : {M : Type 1} → statement M
+write-strokes-spec =
+    tie.close
+    (tie.spec
+    Inv-loop
+    μ-loop
+    loop-holds
+    mul-a
+    shared-slice-read-a
+    cast-a
+    end-of-requires
+    write-stroke-requires
+    add-i
+    loop-less
+    loop-again
+    same-length
+    same-length-2
+    returns)
