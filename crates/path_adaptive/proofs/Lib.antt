@@ -3,3 +3,4 @@ pub mod Tallies
 pub mod Calls
 pub mod Unique
 pub mod Halvings
+pub mod Cases

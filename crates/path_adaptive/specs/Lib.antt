@@ -1,3 +1,4 @@
 pub mod Walk
 pub mod Tally
 pub mod Call
+pub mod Cases
