@@ -254,30 +254,14 @@ fn read_rows(rows: &mut [u64; 32], differ: &mut [u64; 32]) {
 
 // ---- what is printed
 
-fn print_name(function: usize) {
-    match function {
-        1 => print(b"sqrt"),
-        2 => print(b"floor"),
-        3 => print(b"abs"),
-        4 => print(b"length"),
-        5 => print(b"distance"),
-        6 => print(b"length_squared"),
-        7 => print(b"distance_squared"),
-        8 => print(b"dot"),
-        9 => print(b"cross"),
-        10 => print(b"normalize"),
-        11 => print(b"add"),
-        12 => print(b"sub"),
-        13 => print(b"mul"),
-        14 => print(b"div"),
-        15 => print(b"add_scalar"),
-        16 => print(b"sub_scalar"),
-        17 => print(b"mul_scalar"),
-        18 => print(b"div_scalar"),
-        19 => print(b"segment_distance"),
-        20 => print(b"mul_position_w"),
-        _ => print(b"no function"),
-    }
+// The name of a function, out of all names with sixteen bytes each.
+fn print_name(function: usize)
+    requires { ⌜ function < 21 ⌝ }
+{
+    let names: &[u8] =
+        b"no function     sqrt            floor           abs             length          distance        length_squared  distance_squareddot             cross           normalize       add             sub             mul             div             add_scalar      sub_scalar      mul_scalar      div_scalar      segment_distancemul_position_w  ";
+    let at = function * 16;
+    print(&names[at..at + 16]);
 }
 
 fn print(text: &[u8]) {
@@ -316,6 +300,6 @@ fn main() {
     let mut differ = [0u64; 32];
     read_rows(&mut rows, &mut differ);
     print_rows(&rows, &differ);
-    print(b"all");
+    print(b"all             ");
     print_counts(sum(&rows), sum(&differ));
 }

@@ -4,11 +4,13 @@
 //! to compare with, and each program here says so.
 
 pub mod arithmetic;
+pub mod bench;
 pub mod numbers;
 pub mod random;
 pub mod reading;
 pub mod rows;
 pub mod runs;
+pub mod torus;
 
 /// Whether the original was there when this was built.
 pub const HAS_ORIGINAL: bool = cfg!(original);

@@ -103,7 +103,7 @@ pub fn fill(random: &mut Random, list: &mut [f64]) {
     let repeats = random.once_in(3);
     for i in 0..list.len() {
         list[i] = if repeats && i >= 3 && random.once_in(2) {
-            list[i - 3] * random.one_of(&[1.0, 1.0, -1.0])
+            if random.once_in(3) { -list[i - 3] } else { list[i - 3] }
         } else if mixed {
             number(random)
         } else {
@@ -115,12 +115,14 @@ pub fn fill(random: &mut Random, list: &mut [f64]) {
     }
 }
 
-/// Moves the first of three points near the segment between the others, so that every branch is met.
+/// Moves the first of three points near the segment between the others, so that every branch is met. Which
+/// pattern a NaN gets in a sum is the machine's own affair, so it is set here: the inputs are the same everywhere.
 fn on_segment(random: &mut Random, list: &mut [f64]) {
     let inside = random.unit();
     let along = random.one_of(&[0.0, 1.0, inside, inside * 3.0 - 1.0]);
     for i in 0..3 {
-        list[i] = list[3 + i] + (list[6 + i] - list[3 + i]) * along;
+        let x = list[3 + i] + (list[6 + i] - list[3 + i]) * along;
+        list[i] = if x.is_nan() { f64::NAN } else { x };
     }
 }
 
