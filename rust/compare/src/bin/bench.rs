@@ -24,7 +24,7 @@ fn main() {
 }
 
 #[cfg(original)]
-const RUNS: usize = 9;
+const RUNS: usize = 25;
 
 #[cfg(original)]
 mod calls {
