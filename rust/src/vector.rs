@@ -29,6 +29,8 @@ pub(crate) fn written(write: impl FnOnce(&mut [f64; 3])) -> Vector {
     out.into()
 }
 
+// The source's own names.
+#[allow(clippy::should_implement_trait)]
 impl Vector {
     pub fn new(x: f64, y: f64, z: f64) -> Self {
         Vector { x, y, z }

@@ -35,7 +35,7 @@ pub const SPECIAL: [f64; 37] = [
     -f64::MIN_POSITIVE,
     5e-324,
     -5e-324,
-    2.2250738585072009e-308,
+    2.225073858507201e-308,
     f64::MAX,
     f64::MIN,
     f64::INFINITY,
@@ -84,8 +84,8 @@ fn of_kind(random: &mut Random, kind: Kind) -> f64 {
             if random.once_in(2) { -near } else { near }
         }
         Kind::Subnormal => f64::from_bits(random.bits() & 0x800F_FFFF_FFFF_FFFF),
-        Kind::TinySquare => spread * f64::from_bits(random.below(0x210) as u64 + 0x1E0 << 52),
-        Kind::HugeSquare => spread * f64::from_bits(random.below(0x40) as u64 + 0x5E0 << 52),
+        Kind::TinySquare => spread * f64::from_bits((random.below(0x210) as u64 + 0x1E0) << 52),
+        Kind::HugeSquare => spread * f64::from_bits((random.below(0x40) as u64 + 0x5E0) << 52),
     }
 }
 
