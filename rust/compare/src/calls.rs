@@ -11,6 +11,8 @@ pub mod splice;
 pub mod strokes;
 
 use crate::random::Random;
+use crate::runs::Seen;
+use std::fmt::Debug;
 
 /// What a call is lent to write to: scratch, and room for points and starts.
 #[derive(Clone, PartialEq, Debug)]
@@ -30,10 +32,7 @@ pub struct Left<P> {
 
 impl<P: Copy> Lent<P> {
     /// A refusal changes nothing and carries nothing.
-    pub fn refused(&self, status: u32) -> Left<P>
-    where
-        P: Clone,
-    {
+    pub fn refused(&self, status: u32) -> Left<P> {
         Left { status, counts: Vec::new(), lent: self.clone() }
     }
 
@@ -50,6 +49,37 @@ impl<P: Copy> Lent<P> {
         lent.scratch.fill(0);
         Left { status: 0, counts: [&[at / width, starts], more].concat(), lent }
     }
+}
+
+/// A call on buffers that the archive has, by its name and its run.
+pub struct Linked {
+    pub name: &'static str,
+    pub run: fn(u64, u64) -> Seen,
+}
+
+/// The calls that the archive has. A call is added here when its function is linked.
+pub const LINKED: &[Linked] = &[];
+
+/// Runs a call on the inputs that are tried always and on `count` random ones, and compares all that the port leaves.
+pub fn run<I: Debug, P: PartialEq + Debug>(
+    always: impl Iterator<Item = I>,
+    make: fn(&mut Random) -> I,
+    judged: fn(&I) -> Left<P>,
+    port: fn(&I) -> Left<P>,
+    (count, seed): (u64, u64),
+) -> Seen {
+    let mut seen = Seen::default();
+    let mut random = Random::new(seed);
+    for input in always.chain((0..count).map(|_| make(&mut random))) {
+        let (theirs, ours) = (judged(&input), port(&input));
+        seen.cases += 1;
+        seen.refused += (theirs.status != 0) as u64;
+        if theirs != ours {
+            seen.differ += 1;
+            seen.first.get_or_insert_with(|| format!("{input:?}: {theirs:?} but {ours:?}"));
+        }
+    }
+    seen
 }
 
 /// Room for a call that needs `need`: exactly as much, more, or now and then too little.

@@ -5,6 +5,7 @@
 
 pub mod arithmetic;
 pub mod bench;
+#[cfg(original)]
 pub mod calls;
 pub mod numbers;
 pub mod random;

@@ -133,7 +133,7 @@ pub fn near_middle(random: &mut Random) -> [f64; 2] {
     let square = m * m + m;
     let shift = 128 - square.leading_zeros() - 53;
     let below = (square >> shift) as u64;
-    let even = if shift % 2 == 0 { 1.0 } else { 2.0 };
+    let even = if shift.is_multiple_of(2) { 1.0 } else { 2.0 };
     let scale = f64::from_bits(((random.below(900) as u64) * 2 + 51) << 52);
     [below, below + 1].map(|x| x as f64 * even * scale)
 }

@@ -45,7 +45,7 @@ fn first(tests: &[(bool, u32)]) -> u32 {
 fn strokes(coordinates: &[f64], starts: &[u32]) -> u32 {
     let points = coordinates.len() / 3;
     first(&[
-        (coordinates.len() % 3 == 0 && is_table(starts, points), SHAPE),
+        (coordinates.len().is_multiple_of(3) && is_table(starts, points), SHAPE),
         (starts.len() <= MOST_STROKES && points <= MOST_POINTS, COUNT),
     ])
 }

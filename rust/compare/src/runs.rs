@@ -24,11 +24,19 @@ impl std::fmt::Display for Seen {
 
 /// The names of all calls that can be compared.
 pub fn names() -> Vec<&'static str> {
-    FUNCTIONS.iter().map(|f| f.name).collect()
+    #[cfg(not(original))]
+    let calls: [&str; 0] = [];
+    #[cfg(original)]
+    let calls: Vec<&str> = crate::calls::LINKED.iter().map(|call| call.name).collect();
+    FUNCTIONS.iter().map(|f| f.name).chain(calls.iter().copied()).collect()
 }
 
 /// Runs a call by its name on `count` inputs and those that are tried always; none if there is no such call.
 pub fn run(name: &str, count: u64, seed: u64) -> Option<Seen> {
+    #[cfg(original)]
+    if let Some(call) = crate::calls::LINKED.iter().find(|call| call.name == name) {
+        return Some((call.run)(count, seed));
+    }
     FUNCTIONS.iter().find(|f| f.name == name).map(|f| run_function(f, count, seed))
 }
 

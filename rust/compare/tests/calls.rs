@@ -16,8 +16,7 @@ fn written<P: Copy>(left: &Left<P>, width: usize) -> (Vec<P>, Vec<u32>) {
 }
 
 fn spliced(strokes: &[&[u32]]) -> (Vec<u32>, Vec<u32>) {
-    let starts = (0..strokes.len()).map(|i| strokes[..i].iter().map(|s| s.len() as u32).sum()).collect();
-    let input = splice::Input { points: strokes.concat(), starts, lent: plenty(5) };
+    let input = splice::of_strokes(&strokes.iter().map(|s| s.to_vec()).collect::<Vec<_>>());
     let left = splice::judged(&input);
     assert!(splice::is_sound(&input, &left));
     written(&left, 1)
@@ -104,8 +103,7 @@ fn random_inputs_meet_every_refusal_that_they_can() {
 #[test]
 fn every_splice_of_the_original_is_sound() {
     let mut random = Random::new(4);
-    for _ in 0..20_000 {
-        let input = splice::make(&mut random);
+    for input in splice::all_small().chain((0..20_000).map(|_| splice::make(&mut random))) {
         let left = splice::judged(&input);
         assert!(left.status != 0 || splice::is_sound(&input, &left), "{input:?}");
     }

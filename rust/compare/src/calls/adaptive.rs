@@ -1,6 +1,6 @@
 //! `chop_adaptive`: strokes on coordinates, halved until the pieces are short on the screen.
 
-use super::strokes::{bits, coordinates, split, table};
+use super::strokes::{bits, bits_of, coordinates, paths_of, split, table};
 use super::{Left, Lent, dirty, room};
 use crate::random::Random;
 use crate::reading;
@@ -131,7 +131,6 @@ pub fn walked(input: &Input) -> Result<(Vec<Vec<u64>>, usize), u32> {
 
 /// What the rules and the original say that the call leaves. The strokes are the original's where it is built for the
 /// tolerance, and those of the rules' walk otherwise; the counts and refusals are the rules'.
-#[cfg(original)]
 pub fn judged(input: &Input) -> Left<u64> {
     let status = status_before(input);
     if status != 0 {
@@ -147,7 +146,6 @@ pub fn judged(input: &Input) -> Left<u64> {
 }
 
 /// The original's cut, by the build that has this tolerance.
-#[cfg(original)]
 fn cut_by_original(input: &Input) -> Vec<Vec<u64>> {
     macro_rules! cut {
         ($original:ident) => {{
@@ -161,8 +159,8 @@ fn cut_by_original(input: &Input) -> Vec<Vec<u64>> {
                 height: input.height,
                 step: input.step,
             };
-            let paths = $crate::paths_of!($original, split(&input.points, &input.starts, 3));
-            $crate::bits_of!(paths.chop_adaptive(&args))
+            let paths = paths_of!($original, split(&input.points, &input.starts, 3));
+            bits_of!(paths.chop_adaptive(&args))
         }};
     }
     match TOLERANCES.iter().position(|&t| t == input.tolerance) {

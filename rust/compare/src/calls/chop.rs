@@ -1,6 +1,6 @@
 //! `chop`: strokes on coordinates, cut into steps.
 
-use super::strokes::{bits, coordinates, split, table};
+use super::strokes::{bits, bits_of, coordinates, paths_of, split, table};
 use super::{Left, Lent, dirty, room};
 use crate::random::Random;
 use crate::reading;
@@ -63,7 +63,6 @@ fn cut(input: &Input) -> Option<Vec<usize>> {
 }
 
 /// What the rules and the original say that the call leaves.
-#[cfg(original)]
 pub fn judged(input: &Input) -> Left<u64> {
     let Input { points, starts, step, lent } = input;
     let status = reading::cut(points, starts, *step);
@@ -75,6 +74,6 @@ pub fn judged(input: &Input) -> Left<u64> {
     if counts.iter().sum::<usize>() * 3 > lent.points.len() / 3 * 3 || strokes > lent.starts.len() {
         return lent.refused(reading::ROOM);
     }
-    let chopped = crate::paths_of!(eps_1e9, split(points, starts, 3)).chop(*step);
-    lent.accepted(&crate::bits_of!(chopped), 3, &[])
+    let chopped = paths_of!(eps_1e9, split(points, starts, 3)).chop(*step);
+    lent.accepted(&bits_of!(chopped), 3, &[])
 }

@@ -1,6 +1,6 @@
 //! `simplify`: strokes on coordinates, with the points that are near enough to a line left out.
 
-use super::strokes::{bits, coordinates, split, table};
+use super::strokes::{bits, bits_of, coordinates, paths_of, split, table};
 use super::{Left, Lent, dirty, room};
 use crate::random::Random;
 
@@ -27,7 +27,6 @@ pub fn make(random: &mut Random) -> Input {
 
 /// What the rules and the original say that the call leaves. The count of distances is that of the rule: each call on
 /// three points or more measures all but its ends.
-#[cfg(original)]
 pub fn judged(input: &Input) -> Left<u64> {
     use original::eps_1e9::vector::Vector;
     let Input { points, starts, threshold, lent } = input;
@@ -38,12 +37,11 @@ pub fn judged(input: &Input) -> Left<u64> {
     let strokes = split(points, starts, 3);
     let vectors = |s: &Vec<f64>| s.chunks_exact(3).map(|p| Vector::new(p[0], p[1], p[2])).collect::<Vec<_>>();
     let measured = strokes.iter().map(|s| measured(&vectors(s), *threshold)).sum();
-    let simplified = crate::paths_of!(eps_1e9, strokes).simplify(*threshold);
-    lent.accepted(&crate::bits_of!(simplified), 3, &[measured])
+    let simplified = paths_of!(eps_1e9, strokes).simplify(*threshold);
+    lent.accepted(&bits_of!(simplified), 3, &[measured])
 }
 
 /// How many distances the rule measures.
-#[cfg(original)]
 fn measured(path: &[original::eps_1e9::vector::Vector], threshold: f64) -> usize {
     if path.len() < 3 {
         return 0;

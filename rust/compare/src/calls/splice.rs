@@ -22,8 +22,34 @@ pub fn make(random: &mut Random) -> Input {
     Input { points, starts, lent }
 }
 
+/// Every choice of `n` from a list.
+fn choices<T: Clone>(list: &[T], n: usize) -> Vec<Vec<T>> {
+    let mut all = vec![Vec::new()];
+    for _ in 0..n {
+        all = all
+            .iter()
+            .flat_map(|some| list.iter().map(|one| [&some[..], std::slice::from_ref(one)].concat()))
+            .collect();
+    }
+    all
+}
+
+/// Every list of up to four strokes of up to two points on three numbers, with room for all of it.
+pub fn all_small() -> impl Iterator<Item = Input> {
+    let strokes: Vec<Vec<u32>> = (0..3).flat_map(|n| choices(&[0, 1, 2], n)).collect();
+    (0..5).flat_map(move |n| choices(&strokes, n)).map(|list| of_strokes(&list))
+}
+
+/// These strokes, with just the room that they need, and something in it.
+pub fn of_strokes(strokes: &[Vec<u32>]) -> Input {
+    let starts: Vec<u32> = (0..strokes.len()).map(|i| strokes[..i].iter().map(|s| s.len() as u32).sum()).collect();
+    let points = strokes.concat();
+    let lent =
+        Lent { scratch: vec![7; 8 * starts.len()], points: vec![5; points.len()], starts: vec![9; starts.len()] };
+    Input { points, starts, lent }
+}
+
 /// What the rules and the original say that the call leaves.
-#[cfg(original)]
 pub fn judged(input: &Input) -> Left<u32> {
     use original::eps_1e9::path::Paths;
     let Input { points, starts, lent } = input;

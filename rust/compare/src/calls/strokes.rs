@@ -42,8 +42,6 @@ pub fn coordinates(random: &mut Random, points: usize) -> Vec<f64> {
 }
 
 /// The original's list of the strokes that are not empty.
-#[cfg(original)]
-#[macro_export]
 macro_rules! paths_of {
     ($original:ident, $strokes:expr) => {{
         use original::$original::{path::Paths, vector::Vector};
@@ -56,14 +54,12 @@ macro_rules! paths_of {
 }
 
 /// The strokes of one of the original's lists, as bits.
-#[cfg(original)]
-#[macro_export]
 macro_rules! bits_of {
     ($paths:expr) => {
         $paths
             .iter_paths()
             .map(|path| {
-                path.iter().flat_map(|v| [v.x, v.y, v.z].map($crate::calls::strokes::bits)).collect::<Vec<u64>>()
+                path.iter().flat_map(|v| [v.x, v.y, v.z].map(crate::calls::strokes::bits)).collect::<Vec<u64>>()
             })
             .collect::<Vec<_>>()
     };
@@ -73,3 +69,5 @@ macro_rules! bits_of {
 pub fn bits(x: f64) -> u64 {
     if x.is_nan() { f64::NAN.to_bits() } else { x.to_bits() }
 }
+
+pub(super) use {bits_of, paths_of};
