@@ -6,18 +6,24 @@
 
 pub mod adaptive;
 pub mod chop;
+pub mod draw;
+pub mod mesh;
+pub mod section;
 pub mod simplify;
 pub mod splice;
 pub mod strokes;
+pub mod weld;
 
 use crate::random::Random;
 use crate::runs::Seen;
 use std::fmt::Debug;
 
-/// What a call is lent to write to: scratch, and room for points and starts.
+/// What a call is lent to write to: scratch of words and of numbers (by their bits), and room for points and starts. A
+/// weld's room is for vertices and indices.
 #[derive(Clone, PartialEq, Debug)]
 pub struct Lent<P> {
     pub scratch: Vec<u32>,
+    pub numbers: Vec<u64>,
     pub points: Vec<P>,
     pub starts: Vec<u32>,
 }
@@ -47,6 +53,7 @@ impl<P: Copy> Lent<P> {
             (at, starts) = (at + stroke.len(), starts + 1);
         }
         lent.scratch.fill(0);
+        lent.numbers.fill(0);
         Left { status: 0, counts: [&[at / width, starts], more].concat(), lent }
     }
 }
@@ -95,5 +102,6 @@ pub fn room(random: &mut Random, need: usize) -> usize {
 pub fn dirty<P>(random: &mut Random, lengths: [usize; 3], point: impl Fn(u64) -> P) -> Lent<P> {
     let mut words = |n: usize| (0..n).map(|_| random.bits() as u32).collect();
     let (scratch, starts) = (words(lengths[0]), words(lengths[2]));
-    Lent { scratch, points: (0..lengths[1]).map(|_| point(random.bits())).collect(), starts }
+    let points = (0..lengths[1]).map(|_| point(random.bits())).collect();
+    Lent { scratch, numbers: Vec::new(), points, starts }
 }

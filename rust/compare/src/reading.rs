@@ -3,11 +3,15 @@
 
 pub const SHAPE: u32 = 1;
 pub const COUNT: u32 = 2;
+pub const VERTEX: u32 = 3;
 pub const NUMBER: u32 = 4;
 pub const SCRATCH: u32 = 5;
 pub const ROOM: u32 = 6;
+pub const FLAT: u32 = 7;
 pub const DEEP: u32 = 8;
 
+const MOST_FACES: usize = 65_536;
+const MOST_VERTICES: usize = 196_608;
 const MOST_STROKES: usize = 196_608;
 pub const MOST_POINTS: usize = 1_048_576;
 const MOST_TO_SIMPLIFY: usize = 4_096;
@@ -86,5 +90,65 @@ pub fn simplify(coordinates: &[f64], starts: &[u32], threshold: f64, out_points:
         (longest <= MOST_TO_SIMPLIFY, COUNT),
         (coordinates.iter().all(|&x| in_range(x)) && threshold >= 0.0, NUMBER),
         (out_points >= points && out_starts >= starts.len(), ROOM),
+    ])
+}
+
+pub fn weld(corners: &[f64], scratch: usize, out_numbers: usize, out_indices: usize) -> u32 {
+    let faces = corners.len() / 9;
+    first(&[
+        (corners.len().is_multiple_of(9), SHAPE),
+        (faces <= MOST_FACES, COUNT),
+        (corners.iter().all(|&x| in_range(x)), NUMBER),
+        (scratch >= 12 * faces, SCRATCH),
+        (out_numbers >= 9 * faces && out_indices >= 3 * faces, ROOM),
+    ])
+}
+
+/// What a mesh is refused for: 1, 2 and 3.
+fn mesh(vertices: &[f64], indices: &[u32], pairs: bool) -> u32 {
+    let [count, faces] = [vertices.len() / 3, indices.len() / 3];
+    first(&[
+        (indices.len().is_multiple_of(3) && vertices.len().is_multiple_of(3) && pairs, SHAPE),
+        (faces <= MOST_FACES && count <= MOST_VERTICES, COUNT),
+        (indices.iter().all(|&v| (v as usize) < count), VERTEX),
+    ])
+}
+
+/// The numbers beside the mesh of a drawing, all tested whatever the mode.
+pub struct View {
+    pub mode: u32,
+    pub cos_theta: f64,
+    pub eye: [f64; 3],
+    pub tolerance: f64,
+}
+
+/// What a drawing is refused for before its normals are looked at, by the lengths that it is lent: words and numbers of
+/// scratch, points and starts.
+pub fn draw(vertices: &[f64], indices: &[u32], flips: &[u32], view: &View, lent: [usize; 4]) -> u32 {
+    let number = mesh(vertices, indices, flips.len().is_multiple_of(2));
+    if number != 0 {
+        return number;
+    }
+    let faces = indices.len() / 3;
+    let tolerance = view.tolerance > 0.0 && view.tolerance < 1.0;
+    let in_ranges = vertices.iter().chain(&view.eye).all(|&x| in_range(x));
+    first(&[
+        (in_ranges && tolerance && !view.cos_theta.is_nan() && view.mode <= 3, NUMBER),
+        (lent[0] >= 64 * faces && lent[1] >= 4 * faces, SCRATCH),
+        (lent[2] >= 6 * faces && lent[3] >= 3 * faces, ROOM),
+    ])
+}
+
+/// What a section is refused for, by the plane's point and normal, and room for coordinates and starts.
+pub fn section(vertices: &[f64], indices: &[u32], plane: &[f64; 6], tolerance: f64, lent: [usize; 2]) -> u32 {
+    let number = mesh(vertices, indices, true);
+    if number != 0 {
+        return number;
+    }
+    let faces = indices.len() / 3;
+    let in_ranges = vertices.iter().chain(plane).all(|&x| in_range(x));
+    first(&[
+        (in_ranges && tolerance > 0.0 && tolerance < 1.0, NUMBER),
+        (lent[0] >= 6 * faces && lent[1] >= faces, ROOM),
     ])
 }

@@ -1,12 +1,12 @@
 //! The judge of the calls on buffers: the worked cases of the rules, by the original, and what must hold of all answers.
 #![cfg(original)]
 
-use compare::calls::{Left, Lent, adaptive, chop, simplify, splice};
+use compare::calls::{Left, Lent, adaptive, chop, draw, section, simplify, splice, weld};
 use compare::random::Random;
 
 /// Room for plenty, with something in it.
 fn plenty<P: Copy>(fill: P) -> Lent<P> {
-    Lent { scratch: vec![7; 64], points: vec![fill; 96], starts: vec![9; 16] }
+    Lent { scratch: vec![7; 128], numbers: vec![7; 8], points: vec![fill; 96], starts: vec![9; 16] }
 }
 
 /// The points that were written, and where their strokes start.
@@ -83,6 +83,73 @@ fn simplifyings_of_the_rules() {
     );
 }
 
+fn welded(xs: &[f64; 3]) -> Vec<u32> {
+    let left = weld::judged(&weld::Input { corners: on_x(xs), lent: plenty(5) });
+    left.lent.starts[..left.counts[1]].to_vec()
+}
+
+#[test]
+fn welds_of_the_rules() {
+    assert_eq!(welded(&[0.0, 0.000001, 0.0]), [0, 1, 0]);
+    assert_eq!(welded(&[0.0, 6e-7, 1.2e-6]), [0, 0, 1]);
+    assert_eq!(welded(&[1.5e-6, 0.0, 9e-7]), [0, 1, 1]);
+}
+
+/// A drawing of the unit square of two faces.
+fn square(mode: u32, cos_theta: f64, eye: [f64; 3], flips: &[u32]) -> Vec<u32> {
+    let vertices = vec![0.0, 0.0, 0.0, 1.0, 0.0, 0.0, 1.0, 1.0, 0.0, 0.0, 1.0, 0.0];
+    let (indices, flips, lent) = (vec![0, 1, 2, 0, 2, 3], flips.to_vec(), plenty(5));
+    let input = draw::Input { vertices, indices, flips, mode, cos_theta, eye, tolerance: 1e-9, lent };
+    written(&draw::renamed(&input, draw::judged(&input)), 1).0
+}
+
+#[test]
+fn drawings_of_the_rules() {
+    let (triangles, polygonal) = ([0, 2, 3, 0, 1, 2], [1, 0, 3, 2, 1]);
+    let above = [0.0, 0.0, 5.0];
+    assert_eq!(square(0, 0.0, above, &[]), triangles);
+    assert_eq!(square(1, 0.0, above, &[]), triangles);
+    assert_eq!(square(2, 0.0, above, &[]), polygonal);
+    assert_eq!(square(3, 0.0, above, &[]), polygonal);
+    assert_eq!(square(3, 0.0, above, &[0, 1]), triangles);
+    assert_eq!(square(3, 0.0, above, &[1, 0]), polygonal);
+    assert_eq!(square(3, 1.0, above, &[]), triangles);
+    assert_eq!(square(3, 0.0, [5.0, 5.0, 0.0], &[]), triangles);
+}
+
+/// A drawing of one face of three corners.
+fn face(indices: [u32; 3], mode: u32) -> Left<u32> {
+    draw::judged(&draw::Input {
+        vertices: vec![0.0, 0.0, 0.0, 1.0, 0.0, 0.0, 0.0, 1.0, 0.0],
+        indices: indices.to_vec(),
+        flips: Vec::new(),
+        mode,
+        cos_theta: 0.0,
+        eye: [0.0; 3],
+        tolerance: 1e-9,
+        lent: plenty(5),
+    })
+}
+
+#[test]
+fn faces_of_the_rules() {
+    assert_eq!(written(&face([0, 1, 2], 1), 1), (vec![1, 0, 2, 1], vec![0]));
+    assert_eq!([1, 2, 3].map(|mode| face([0, 0, 1], mode).status), [0, 7, 7]);
+}
+
+#[test]
+fn sections_of_the_rules() {
+    let left = section::judged(&section::Input {
+        vertices: vec![0.0, 0.0, 0.0, 1.0, 1.0, 0.0, 2.0, 0.0, 0.0],
+        indices: vec![0, 1, 2],
+        plane: [1.0, 0.0, 0.0, 1.0, 0.0, 0.0],
+        tolerance: 1e-9,
+        lent: plenty(5),
+    });
+    let twice = [1.0f64, 1.0, 0.0, 1.0, 1.0, 0.0].map(f64::to_bits);
+    assert_eq!(written(&left, 3), (twice.to_vec(), vec![0]));
+}
+
 /// Which statuses random inputs meet.
 fn met<I, P>(make: fn(&mut Random) -> I, judged: fn(&I) -> Left<P>) -> Vec<u32> {
     let mut random = Random::new(3);
@@ -98,6 +165,9 @@ fn random_inputs_meet_every_refusal_that_they_can() {
     assert_eq!(met(chop::make, chop::judged), [0, 1, 4, 6]);
     assert_eq!(met(simplify::make, simplify::judged), [0, 1, 4, 6]);
     assert_eq!(met(adaptive::make, adaptive::judged), [0, 1, 4, 6, 8]);
+    assert_eq!(met(weld::make, weld::judged), [0, 1, 4, 5, 6]);
+    assert_eq!(met(draw::make, draw::judged), [0, 1, 3, 4, 5, 6, 7]);
+    assert_eq!(met(section::make, section::judged), [0, 1, 3, 4, 6]);
 }
 
 #[test]

@@ -44,8 +44,8 @@ pub fn all_small() -> impl Iterator<Item = Input> {
 pub fn of_strokes(strokes: &[Vec<u32>]) -> Input {
     let starts: Vec<u32> = (0..strokes.len()).map(|i| strokes[..i].iter().map(|s| s.len() as u32).sum()).collect();
     let points = strokes.concat();
-    let lent =
-        Lent { scratch: vec![7; 8 * starts.len()], points: vec![5; points.len()], starts: vec![9; starts.len()] };
+    let [words, room] = [8 * starts.len(), points.len()];
+    let lent = Lent { scratch: vec![7; words], numbers: vec![], points: vec![5; room], starts: vec![9; starts.len()] };
     Input { points, starts, lent }
 }
 
