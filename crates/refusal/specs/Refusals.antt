@@ -7,15 +7,15 @@ use Rattle.refusal.specs.declared.Verdict.{Verdict}
 use Rattle.refusal.specs.declared.Verdict.the-variants.{Refused}
 
 abbrev pub numberOf : Refusal → ℕ
-numberOf Shape = 1    -- a list that is no list of triangles, points, pairs or strokes
-numberOf Count = 2    -- a count above its limit
-numberOf Vertex = 3   -- a vertex number not below the vertex count
-numberOf Number = 4   -- a number outside its range
+numberOf Shape = 1  -- a list that is no list of triangles, points, pairs or strokes
+numberOf Count = 2  -- a count above its limit
+numberOf Vertex = 3  -- a vertex number not below the vertex count
+numberOf Number = 4  -- a number outside its range
 numberOf Scratch = 5  -- scratch too short
-numberOf Room = 6     -- output too short, or a cut of too many points
-numberOf Flat = 7     -- a face whose normal has computed length 0
-numberOf Deep = 8     -- a span halved too often
-numberOf Sheet = 9    -- bytes that are not a sheet
+numberOf Room = 6  -- output too short, or a cut of too many points
+numberOf Flat = 7  -- a face whose normal has computed length 0
+numberOf Deep = 8  -- a span halved too often
+numberOf Sheet = 9  -- bytes that are not a sheet
 
 -- a test that must hold, and the refusal where it does not, before the tests that follow
 unfoldable pub unless : Bool → Refusal → Verdict → Verdict

@@ -4,9 +4,13 @@ ghost use Rattle.refusal.specs.Refusals.{numberOf};
 
 // The most of each that a call takes.
 pub const MOST_FACES: usize = 65536;
+
 pub const MOST_VERTICES: usize = 196608;
+
 pub const MOST_STROKES: usize = 196608;
+
 pub const MOST_POINTS: usize = 1048576;
+
 pub const MOST_TO_SIMPLIFY: usize = 4096;
 
 // The refusals, in the order of their numbers.

@@ -1,0 +1,257 @@
+-- What the proofs of `sqrt` and of its steps cite.
+use mathlib.Core.Path.{_≡_, refl, sym, ap, _∙_, subst}
+use mathlib.Core.Logic.{_⊎_, inl, inr, ⊎-elim}
+use lib.Dec.{T, ltb, ltb→lt, nltb→le}
+use mathlib.Core.Bool.{Bool, true, false, not, cond}
+use Prim.Native.Nat.{ℕ, zero, suc, _+_, _-_, _*_, _/_, _%_, _^_, _≤_, _<_}
+use native.Mathlib.Nat.{eq-or-lt-of-le, le-of-lt, lt-of-mul-lt-mul-right, mul-le-mul, mul-mul-mul-comm, not-le-of-lt, mul-pos, mul-lt-mul-of-pos-left, pow-suc, mul-comm, mul-assoc, lt-of-not-le, lt-irrefl, lt-of-le-of-lt, lt-of-lt-of-le, le-trans, le-of-eq, one-mul, mul-le-mul-left, mul-le-mul-right, mul-lt-mul-of-pos-right}
+use native.Mathlib.Omega.{arith}
+use lib.Pow.{pow-pos, pow-add, pow-mono}
+use Rattle.vector.specs.Steps.{Digits, Normal, NearestUnits, at}
+
+pub lt-or-ge : (a b : ℕ) → (a < b) ⊎ (b ≤ a)
+lt-or-ge a b = go (ltb a b) (ltb→lt a b) (nltb→le a b)
+  where
+    go : (t : Bool) → (T t → a < b) → (T (not t) → b ≤ a) → (a < b) ⊎ (b ≤ a)
+    go true f g = inl (f tt)
+    go false f g = inr (g tt)
+
+-- ---- digit by digit
+
+-- What the loop keeps: `rest` times `bit` is what is left of n * 2 ^ 54 when the square of q is taken away, and the digits to come make less than `bit`.
+pub record Step (n rest q bit : ℕ) : Type 0 where
+  pub place : ℕ
+  pub power : bit ≡ 2 ^ place
+  pub room : q + bit ≤ 2 ^ 54
+  pub small : rest < 2 * q + bit
+  pub whole : rest * bit + q * q ≡ n * 2 ^ 54
+
+halves : (k bit : ℕ) → bit ≡ 2 ^ k → 1 < bit → (bit ≡ 2 * (bit / 2)) × (bit / 2 ≡ 2 ^ (k - 1))
+halves zero bit p h = absurd (omega arith)
+halves (suc k) bit p h =
+    let e : bit ≡ 2 * 2 ^ k = p ∙ pow-suc 2 k ∙ mul-comm (2 ^ k) 2 in
+    let d : suc k - 1 ≡ k = omega arith in
+    (omega arith, rw d (omega arith))
+
+pub start : (n : ℕ) → n < 2 ^ 54 → Step n n 0 (2 ^ 54)
+start n h = record { place = 54; power = refl; room = omega arith; small = omega arith; whole = omega arith }
+
+module _ {n rest q bit : ℕ} (s : Step n rest q bit) (more : 1 < bit) where
+  pub taken : 2 * q + bit / 2 ≤ rest * 2 → Step n (rest * 2 - (2 * q + bit / 2)) (q + bit / 2) (bit / 2)
+  taken t =
+      let h = bit / 2 in
+      let u = rest * 2 - (2 * q + bit / 2) in
+      let p = halves (s .place) bit (s .power) more in
+      let e : rest * 2 ≡ u + (2 * q + h) = omega arith in
+      record {
+        place = s .place - 1;
+        power = p .1;
+        room = omega (arith, p, s .room);
+        small = omega (arith, p .0, s .small);
+        whole = whole-taken rest bit q u h (n * 2 ^ 54) (p .0) e (s .whole);
+      }
+    where
+      whole-taken : (rest bit q u h m : ℕ) → bit ≡ 2 * h → rest * 2 ≡ u + (2 * q + h) → rest * bit + q * q ≡ m → u * h + (q + h) * (q + h) ≡ m
+      whole-taken rest bit q u h m b e w = omega (arith, ap (λ (x : ℕ). rest * x) b, ap (λ (x : ℕ). x * h) e)
+
+  pub left : rest * 2 < 2 * q + bit / 2 → Step n (rest * 2) q (bit / 2)
+  left t =
+      let p = halves (s .place) bit (s .power) more in
+      record {
+        place = s .place - 1;
+        power = p .1;
+        room = omega (arith, p, s .room);
+        small = t;
+        whole = whole-left rest bit q (bit / 2) (n * 2 ^ 54) (p .0) (s .whole);
+      }
+    where
+      whole-left : (rest bit q h m : ℕ) → bit ≡ 2 * h → rest * bit + q * q ≡ m → rest * 2 * h + q * q ≡ m
+      whole-left rest bit q h m b w = omega (arith, ap (λ (x : ℕ). rest * x) b)
+
+pub last : (n rest q bit : ℕ) → Step n rest q bit → bit ≤ 1 → (q < 2 ^ 54) × Digits (n * 2 ^ 54) q
+last n rest q bit s h =
+    let o : bit ≡ 1 = omega (arith, s .power, pow-pos (s .place)) in
+    let w : rest + q * q ≡ n * 2 ^ 54 = omega (arith, s .whole, ap (λ (x : ℕ). rest * x) o) in
+    let l : rest < 2 * q + 1 = omega (arith, s .small) in
+    (omega (arith, s .room), record { not-above = omega arith; next-above = omega arith })
+
+-- ---- the digits and the exponent
+pub at-low : (b : ℕ) → b / 2 ^ 52 ≤ 0 → at b ≡ b % 2 ^ 52
+unfolding at
+at-low b h = let z : b / 2 ^ 52 ≡ 0 = omega arith in rw z
+
+at-high : (b x : ℕ) → b / 2 ^ 52 ≡ suc x → at b ≡ (2 ^ 52 + b % 2 ^ 52) * 2 ^ x
+unfolding at
+at-high b x h = rw h
+
+-- powers by their exponents, so that no large power is written out
+shift : (a x i y j : ℕ) → x + i ≡ y + j → a * 2 ^ x * 2 ^ i ≡ a * 2 ^ y * 2 ^ j
+shift a x i y j h = mul-assoc a (2 ^ x) (2 ^ i) ∙ ap (λ (z : ℕ). a * z) (sym (pow-add 2 x i) ∙ ap (λ (z : ℕ). 2 ^ z) h ∙ pow-add 2 y j) ∙ sym (mul-assoc a (2 ^ y) (2 ^ j))
+
+pub shift-to : (a x i y : ℕ) → x + i ≡ y → a * 2 ^ x * 2 ^ i ≡ a * 2 ^ y
+shift-to a x i y h = mul-assoc a (2 ^ x) (2 ^ i) ∙ ap (λ (z : ℕ). a * z) (sym (pow-add 2 x i) ∙ ap (λ (z : ℕ). 2 ^ z) h)
+
+pub normal : (b : ℕ) → b < 2047 * 2 ^ 52 → 0 < b / 2 ^ 52 → Normal (at b) (b % 2 ^ 52 + 2 ^ 52) (b / 2 ^ 52 + 1023)
+normal b h f = record { least = omega arith; most = omega arith; low = omega arith; high = omega arith; same = go (b / 2 ^ 52) refl f }
+  where
+    go : (k : ℕ) → b / 2 ^ 52 ≡ k → 0 < b / 2 ^ 52 → at b * 2 ^ 1024 ≡ (b % 2 ^ 52 + 2 ^ 52) * 2 ^ (b / 2 ^ 52 + 1023)
+    go zero p f = absurd (omega arith)
+    go (suc x) p f =
+        let s : b % 2 ^ 52 + 2 ^ 52 ≡ 2 ^ 52 + b % 2 ^ 52 = omega arith in
+        rw (at-high b x p, p, s) (shift-to (2 ^ 52 + b % 2 ^ 52) x 1024 (suc x + 1023) (omega arith))
+
+-- what the loop over a number without a leading digit keeps
+pub record Rising (n d e : ℕ) : Type 0 where
+  pub some : 0 < n
+  pub most : d < 2 ^ 53
+  pub low : 972 ≤ e
+  pub high : e ≤ 1024
+  pub same : n * 2 ^ 1024 ≡ d * 2 ^ e
+
+pub rises : (b : ℕ) → 0 < b → b / 2 ^ 52 ≤ 0 → Rising (at b) (b % 2 ^ 52) 1024
+rises b p h = record { some = rw (at-low b h) (omega arith); most = omega arith; low = omega arith; high = omega arith; same = rw (at-low b h) }
+
+module _ {n d e : ℕ} (r : Rising n d e) (less : d < 2 ^ 52) where
+  -- n * 2 ^ 1024 is 2 ^ 1024 at least, and d below 2 ^ 52, so e is above 972
+  pub still : 972 < e
+  still = lt-of-not-le (λ (g : e ≤ 972).
+      lt-irrefl (2 ^ 1024)
+      (lt-of-le-of-lt (le-trans (le-of-eq (sym (one-mul (2 ^ 1024)))) (mul-le-mul-right (2 ^ 1024) (r .some)))
+      (lt-of-le-of-lt (le-of-eq (r .same))
+      (lt-of-le-of-lt (mul-le-mul-left d (pow-mono g)) (lt-of-lt-of-le (mul-lt-mul-of-pos-right less (pow-pos 972)) (le-of-eq (sym (pow-add 2 52 972))))))))
+
+  pub rises-more : Rising n (d * 2) (e - 1)
+  rises-more =
+      let g = still in
+      let k : 1 + (e - 1) ≡ e = omega arith in
+      record { some = r .some; most = omega arith; low = omega arith; high = omega (arith, r .high); same = r .same ∙ sym (shift-to d 1 (e - 1) e k) }
+
+pub risen : {n d e : ℕ} → Rising n d e → 2 ^ 52 ≤ d → Normal n d e
+risen r h = record { least = h; most = r .most; low = r .low; high = omega (arith, r .high); same = r .same }
+
+-- ---- the numbers of at most 53 digits with zeros behind, about one that has a leading digit
+dn : (m j c k : ℕ) → m < 2 ^ 53 → 2 ^ 52 ≤ c → m * 2 ^ j < (c + 1) * 2 ^ k → m * 2 ^ j ≤ c * 2 ^ k
+dn m j c k h l t = ⊎-elim far near (lt-or-ge j k)
+  where
+    -- j < k: below 2 ^ 53 * 2 ^ (k - 1)
+    far : j < k → m * 2 ^ j ≤ c * 2 ^ k
+    far g =
+        let p : 2 ^ 53 * 2 ^ (k - 1) ≡ 2 ^ 52 * 2 ^ k = shift-to 1 53 (k - 1) (52 + k) (omega arith) ∙ sym (shift-to 1 52 k (52 + k) refl) in
+        le-trans (mul-le-mul (le-of-lt h) (pow-mono {i = j} {j = k - 1} (omega arith))) (le-trans (le-of-eq p) (mul-le-mul-right (2 ^ k) l))
+
+    near : k ≤ j → m * 2 ^ j ≤ c * 2 ^ k
+    near g =
+        let e : m * 2 ^ j ≡ m * 2 ^ (j - k) * 2 ^ k = sym (shift-to m (j - k) k j (omega arith)) in
+        let u : m * 2 ^ (j - k) < c + 1 = lt-of-mul-lt-mul-right (2 ^ k) (subst (λ (z : ℕ). z < (c + 1) * 2 ^ k) e t) in
+        le-trans (le-of-eq e) (mul-le-mul-right (2 ^ k) (omega arith))
+
+up : (m j c k : ℕ) → m < 2 ^ 53 → 2 ^ 52 ≤ c → c * 2 ^ k < m * 2 ^ j → (c + 1) * 2 ^ k ≤ m * 2 ^ j
+up m j c k h l t = ⊎-elim (λ g. absurd (not-le-of-lt t (dn m j c k h l g))) (λ g. g) (lt-or-ge (m * 2 ^ j) ((c + 1) * 2 ^ k))
+
+-- ---- the rounded root
+
+sq-lt : (a b : ℕ) → a < b → a * a < b * b
+sq-lt a b h = lt-of-le-of-lt (mul-le-mul-left a (le-of-lt h)) (mul-lt-mul-of-pos-right h (omega arith))
+
+odd-square : (a b : ℕ) → (2 * a + 1) * (2 * a + 1) ≡ 2 * b → ⊥
+odd-square a b h = omega arith
+
+-- D is even, s the whole part of its root, and c its half, rounded up. K is 2 ^ k.
+module _ (D s c k : ℕ) (r : Digits D s) (even : D ≡ 2 * (D / 2)) (big : 2 ^ 53 ≤ s) (half : c ≡ (s + 1) / 2) where
+  reaches : (m j : ℕ) → m < 2 ^ 53 → c * 2 ^ k < m * 2 ^ j → (s + 1) * 2 ^ k ≤ c * 2 ^ k + m * 2 ^ j
+  reaches m j h t = ⊎-elim (λ o. by-odd (omega arith)) (λ e. by-even (omega arith)) (eq-or-lt-of-le {n = s % 2} {m = 1} (omega arith))
+    where
+      by-odd : s + 1 ≡ c + c → (s + 1) * 2 ^ k ≤ c * 2 ^ k + m * 2 ^ j
+      by-odd o = omega (arith, ap (λ (x : ℕ). x * 2 ^ k) o)
+
+      by-even : s + 1 ≡ c + (c + 1) → (s + 1) * 2 ^ k ≤ c * 2 ^ k + m * 2 ^ j
+      by-even o = omega (arith, ap (λ (x : ℕ). x * 2 ^ k) o, up m j c k h (omega arith) t)
+
+  not-square : s % 2 ≡ 1 → s * s < D
+  not-square o =
+      let h : s ≡ 2 * (s / 2) + 1 = omega arith in
+      ⊎-elim (λ e. absurd (odd-square (s / 2) (D / 2) (ap (λ (x : ℕ). x * x) (sym h) ∙ e ∙ even))) (λ l. l) (eq-or-lt-of-le (r .not-above))
+
+  root-above : (m j : ℕ) → m < 2 ^ 53 → c * 2 ^ k < m * 2 ^ j → D * (2 ^ k * 2 ^ k) < (c * 2 ^ k + m * 2 ^ j) * (c * 2 ^ k + m * 2 ^ j)
+  root-above m j h t =
+      let g = reaches m j h t in
+      lt-of-lt-of-le (mul-lt-mul-of-pos-right (r .next-above) (mul-pos (pow-pos k) (pow-pos k)))
+      (le-trans (le-of-eq (mul-mul-mul-comm (s + 1) (s + 1) (2 ^ k) (2 ^ k))) (mul-le-mul g g))
+
+  root-below : (m j : ℕ) → m < 2 ^ 53 → m * 2 ^ j < c * 2 ^ k → (m * 2 ^ j + c * 2 ^ k) * (m * 2 ^ j + c * 2 ^ k) < D * (2 ^ k * 2 ^ k)
+  root-below m j h t = ⊎-elim (λ o. by-odd o (omega arith)) (λ e. by-even (omega arith)) (eq-or-lt-of-le {n = s % 2} {m = 1} (omega arith))
+    where
+      square : s * 2 ^ k * (s * 2 ^ k) ≡ s * s * (2 ^ k * 2 ^ k)
+      square = mul-mul-mul-comm s (2 ^ k) s (2 ^ k)
+
+      by-odd : s % 2 ≡ 1 → s + 1 ≡ c + c → (m * 2 ^ j + c * 2 ^ k) * (m * 2 ^ j + c * 2 ^ k) < D * (2 ^ k * 2 ^ k)
+      by-odd o e =
+          let d : c - 1 + 1 ≡ c = omega arith in
+          let u : m * 2 ^ j ≤ (c - 1) * 2 ^ k = dn m j (c - 1) k h (omega arith) (rw d t) in
+          let f : s ≡ c - 1 + c = omega arith in
+          let v : m * 2 ^ j + c * 2 ^ k ≤ s * 2 ^ k = omega (arith, ap (λ (x : ℕ). x * 2 ^ k) f) in
+          lt-of-le-of-lt (le-trans (mul-le-mul v v) (le-of-eq square)) (mul-lt-mul-of-pos-right (not-square o) (mul-pos (pow-pos k) (pow-pos k)))
+
+      by-even : s ≡ c + c → (m * 2 ^ j + c * 2 ^ k) * (m * 2 ^ j + c * 2 ^ k) < D * (2 ^ k * 2 ^ k)
+      by-even e =
+          let v : m * 2 ^ j + c * 2 ^ k < s * 2 ^ k = omega (arith, ap (λ (x : ℕ). x * 2 ^ k) e) in
+          lt-of-lt-of-le (sq-lt (m * 2 ^ j + c * 2 ^ k) (s * 2 ^ k) v) (le-trans (le-of-eq square) (mul-le-mul-right (2 ^ k * 2 ^ k) (r .not-above)))
+
+-- the pattern of c * 2 ^ k units, where c has 53 digits or is 2 ^ 53
+at-join : (k c : ℕ) → 2 ^ 52 ≤ c → c ≤ 2 ^ 53 → at (k * 2 ^ 52 + c) ≡ c * 2 ^ k
+at-join k c l h = ⊎-elim full less (eq-or-lt-of-le h)
+  where
+    less : c < 2 ^ 53 → at (k * 2 ^ 52 + c) ≡ c * 2 ^ k
+    less t =
+        let p : 2 ^ 52 + (k * 2 ^ 52 + c) % 2 ^ 52 ≡ c = omega arith in
+        at-high (k * 2 ^ 52 + c) k (omega arith) ∙ ap (λ (x : ℕ). x * 2 ^ k) p
+
+    full : c ≡ 2 ^ 53 → at (k * 2 ^ 52 + c) ≡ c * 2 ^ k
+    full e =
+        let p : 2 ^ 52 + (k * 2 ^ 52 + c) % 2 ^ 52 ≡ 2 ^ 52 = omega arith in
+        at-high (k * 2 ^ 52 + c) (suc k) (omega arith) ∙ ap (λ (x : ℕ). x * 2 ^ suc k) p
+        ∙ shift-to 1 52 (suc k) (53 + k) (omega arith) ∙ sym (shift-to 1 53 k (53 + k) refl) ∙ ap (λ (x : ℕ). x * 2 ^ k) (sym e)
+
+-- n has 53 or 54 digits, and the number's value is n * 2 ^ (2 * h), in the scale of `split`
+module _ (N n h s : ℕ) (least : 2 ^ 52 ≤ n) (most : n < 2 ^ 54) (few : s < 2 ^ 54) (r : Digits (n * 2 ^ 54) s) (low : 486 ≤ h) (high : h ≤ 1534) (same : N * 2 ^ 1024 ≡ n * 2 ^ (2 * h)) where
+  big : 2 ^ 53 ≤ s
+  big = ⊎-elim (λ g. absurd (too-low (omega arith))) (λ g. g) (lt-or-ge s (2 ^ 53))
+    where
+      too-low : s + 1 ≤ 2 ^ 53 → ⊥
+      too-low g = not-le-of-lt (r .next-above) (le-trans (mul-le-mul g g) (mul-le-mul-right (2 ^ 54) least))
+
+  value : N * 2 ^ 1076 ≡ n * 2 ^ 54 * (2 ^ (h - 1) * 2 ^ (h - 1))
+  value =
+      sym (shift-to N 1024 52 1076 refl)
+      ∙ ap (λ (x : ℕ). x * 2 ^ 52) same
+      ∙ shift-to n (2 * h) 52 (54 + (h - 1) + (h - 1)) (omega arith)
+      ∙ sym (shift-to n (54 + (h - 1)) (h - 1) (54 + (h - 1) + (h - 1)) refl)
+      ∙ ap (λ (x : ℕ). x * 2 ^ (h - 1)) (sym (shift-to n 54 (h - 1) (54 + (h - 1)) refl))
+      ∙ mul-assoc (n * 2 ^ 54) (2 ^ (h - 1)) (2 ^ (h - 1))
+
+  pub joined : ((h - 1) * 2 ^ 52 + (s + 1) / 2 < 2047 * 2 ^ 52) × NearestUnits N (at ((h - 1) * 2 ^ 52 + (s + 1) / 2))
+  joined =
+      let c = (s + 1) / 2 in
+      let b = big in
+      let y = at-join (h - 1) c (omega arith) (omega arith) in
+      let e : n * 2 ^ 54 ≡ 2 * (n * 2 ^ 54 / 2) = omega arith in (
+        omega arith,
+        record {
+          above = λ m j g t. rw (value, y) (root-above (n * 2 ^ 54) s c (h - 1) r e b refl m j g (rw y at t));
+          below = λ m j g t. rw (value, y) (root-below (n * 2 ^ 54) s c (h - 1) r e b refl m j g (rw y at t));
+        },
+      )
+
+-- the two ways of `root_bits`: an even exponent, and an odd one, which takes one digit more
+pub by-even : (N d e s : ℕ) → Normal N d e → e % 2 ≡ 0 → s < 2 ^ 54 → Digits (d * 2 ^ 54) s
+    → ((e / 2 - 1) * 2 ^ 52 + (s + 1) / 2 < 2047 * 2 ^ 52) × NearestUnits N (at ((e / 2 - 1) * 2 ^ 52 + (s + 1) / 2))
+by-even N d e s n p f r =
+    let q : e ≡ 2 * (e / 2) = omega arith in
+    joined N d (e / 2) s (n .least) (omega (arith, n .most)) f r (omega (arith, n .low)) (omega (arith, n .high)) (n .same ∙ ap (λ (x : ℕ). d * 2 ^ x) q)
+
+pub by-odd : (N d e s : ℕ) → Normal N d e → (e % 2 ≡ 0 → ⊥) → s < 2 ^ 54 → Digits (d * 2 * 2 ^ 54) s
+    → ((e / 2 - 1) * 2 ^ 52 + (s + 1) / 2 < 2047 * 2 ^ 52) × NearestUnits N (at ((e / 2 - 1) * 2 ^ 52 + (s + 1) / 2))
+by-odd N d e s n p f r =
+    let q : 1 + 2 * (e / 2) ≡ e = omega arith in
+    joined N (d * 2) (e / 2) s (omega (arith, n .least)) (omega (arith, n .most)) f r (omega (arith, n .low)) (omega (arith, n .high))
+    (n .same ∙ sym (shift-to d 1 (2 * (e / 2)) e q))

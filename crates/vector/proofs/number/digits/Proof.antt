@@ -1,0 +1,60 @@
+-- `digits` meets its contract: the loop keeps `Step`, and `bit` is halved in each turn.
+use native.Mathlib.Omega.{arith}
+use Rattle.vector.proofs.Roots.{Step, start, taken, left, last}
+use Rattle.vector.proofs.number.digits.Statement.{statement}
+use Rattle.vector.proofs.number.digits.Tie as tie
+use Rattle.vector.proofs.number.digits.Reads as reads
+use Rattle.vector.proofs.number.digits.Lts as lts
+
+abbrev Inv-loop : tie.InvT-loop
+Inv-loop n rest₀ q₀ bit₀ rest q bit = Step n rest q bit
+
+abbrev μ-loop : tie.MeasureT-loop
+μ-loop n rest₀ q₀ bit₀ rest q bit = bit
+
+loop-holds : tie.Need-loop-holds Inv-loop μ-loop
+loop-holds c = start (c .args .n) (c .pre)
+
+mul-rest : tie.Need-mul-rest Inv-loop μ-loop
+mul-rest c = omega arith
+
+mul-t : tie.Need-mul-t Inv-loop μ-loop
+mul-t c = omega arith
+
+add-t : tie.Need-add-t Inv-loop μ-loop
+add-t c = omega arith
+
+add-q : tie.Need-add-q Inv-loop μ-loop
+add-q c = omega arith
+
+loop-less : tie.Need-loop-less Inv-loop μ-loop
+loop-less c = omega arith
+
+loop-again : tie.Need-loop-again Inv-loop μ-loop
+loop-again c = taken (c .before .before .loop .inv) (c .before .loop-test .taken) (c .if1 .taken)
+
+loop-less-2 : tie.Need-loop-less-2 Inv-loop μ-loop
+loop-less-2 c = omega arith
+
+loop-again-2 : tie.Need-loop-again-2 Inv-loop μ-loop
+loop-again-2 c = left (c .before .before .loop .inv) (c .before .loop-test .taken) (c .if1 .left)
+
+returns : tie.Need-returns Inv-loop μ-loop
+returns c = last _ _ _ _ (c .before .loop .inv) (c .loop-test .left)
+
+pub digits-spec : {M : Type 1} → statement M
+digits-spec =
+    tie.close
+    (tie.spec
+    Inv-loop
+    μ-loop
+    loop-holds
+    mul-rest
+    mul-t
+    add-t
+    add-q
+    loop-less
+    loop-again
+    loop-less-2
+    loop-again-2
+    returns)

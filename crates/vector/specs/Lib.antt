@@ -1,0 +1,9 @@
+pub mod Vectors
+pub mod Answers
+pub mod Floor
+pub mod Root
+pub mod Steps
+pub mod Abs
+pub mod Lengths
+pub mod Matrices
+pub mod Cases

@@ -1,0 +1,131 @@
+// Floor, square root and absolute value, worked out here: the source takes them from the machine.
+use refusal::Refusal;
+ghost use mathlib.Core.Path.{_≡_};
+ghost use Prim.Native.Nat.{_+_, _*_, _^_, _<_, _≤_};
+ghost use Rattle.vector.specs.Answers.{wholeSaid, rootSaid};
+ghost use Rattle.vector.specs.Floor.{floorOf};
+ghost use Rattle.vector.specs.Root.{rootOf};
+ghost use Rattle.vector.specs.Steps.{at, Digits, Normal, NearestUnits};
+ghost use Rattle.vector.specs.Abs.{absOf};
+
+// A whole number, or the refusal.
+pub enum Whole {
+    Of(i64),
+    Refused(Refusal),
+}
+
+// A root, or the refusal.
+pub enum Root {
+    Of(f64),
+    Refused(Refusal),
+}
+
+// The greatest whole number not above x, for a magnitude below 2^53.
+pub fn floor(x: f64) -> Whole
+    ensures { λ r. ⌜ wholeSaid r ≡ floorOf x ⌝ }
+{
+    if x > -9007199254740992.0 {
+        if x < 9007199254740992.0 {
+            let t = std::num::truncating_f64_to_i64(x);
+            if x < t as f64 {
+                return Whole::Of(t - 1);
+            }
+            return Whole::Of(t);
+        }
+    }
+    Whole::Refused(Refusal::Number)
+}
+
+// The magnitude: the sign is cleared, that of -0 too.
+pub fn abs(x: f64) -> f64
+    ensures { λ r. ⌜ r ≡ absOf x ⌝ }
+{
+    if x < 0.0 {
+        return -x;
+    }
+    if x == 0.0 {
+        return 0.0;
+    }
+    x
+}
+
+// A number d * 2^e, whose d has 53 binary digits.
+struct Scaled {
+    d: u64,
+    e: u64,
+}
+
+// The whole part of the root of n * 2^54, digit by digit. `rest` times `bit` is what is left of
+// n * 2^54 when the square of the digits found is taken away.
+fn digits(n: u64) -> u64
+    requires { ⌜ n < 2 ^ 54 ⌝ }
+    ensures { λ r. ⌜ (r < 2 ^ 54) × Digits (n * 2 ^ 54) r ⌝ }
+{
+    let mut rest = n;
+    let mut q: u64 = 0;
+    let mut bit: u64 = 0x40_0000_0000_0000;
+    while 1 < bit {
+        bit = bit / 2;
+        rest = rest * 2;
+        let t = 2 * q + bit;
+        if t <= rest {
+            rest -= t;
+            q += bit;
+        }
+    }
+    q
+}
+
+// The digits and the exponent of a positive number by its pattern, with an exponent that is 1024
+// too large for units of the smallest number. The digits of a subnormal are moved up.
+fn split(b: u64) -> Scaled
+    requires { ⌜ (0 < b) × (b < 2047 * 2 ^ 52) ⌝ }
+    ensures { λ r. ⌜ Normal (at b) (r .d) (r .e) ⌝ }
+{
+    let f = b / 0x10_0000_0000_0000;
+    let t = b % 0x10_0000_0000_0000;
+    if 0 < f {
+        return Scaled {
+            d: t + 0x10_0000_0000_0000,
+            e: f + 1023,
+        };
+    }
+    let mut d = t;
+    let mut e: u64 = 1024;
+    while d < 0x10_0000_0000_0000 {
+        d = d * 2;
+        e -= 1;
+    }
+    Scaled { d, e }
+}
+
+// The pattern of the root of a positive number, by the number's pattern: half the exponent, and
+// the digits of the root with one more than fit, rounded. Halfway never happens.
+fn root_bits(b: u64) -> u64
+    requires { ⌜ (0 < b) × (b < 2047 * 2 ^ 52) ⌝ }
+    ensures { λ r. ⌜ (r < 2047 * 2 ^ 52) × NearestUnits (at b) (at r) ⌝ }
+{
+    let s = split(b);
+    let d = s.d;
+    let e = s.e;
+    if e % 2 == 0 {
+        return (e / 2 - 1) * 0x10_0000_0000_0000 + (digits(d) + 1) / 2;
+    }
+    (e / 2 - 1) * 0x10_0000_0000_0000 + (digits(d * 2) + 1) / 2
+}
+
+// The f64 nearest to the root of x; zeros and infinity are their own roots.
+pub fn sqrt(x: f64) -> Root
+    ensures { λ r. ⌜ rootSaid r ≡ rootOf x ⌝ }
+{
+    if x > 0.0 {
+        if x < 1.0 / 0.0 {
+            return Root::Of(f64::from_bits(root_bits(f64::to_bits(x))));
+        }
+        return Root::Of(x);
+    }
+    if x == 0.0 {
+        return Root::Of(x);
+    }
+    Root::Refused(Refusal::Number)
+}
