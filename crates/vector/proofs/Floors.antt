@@ -122,15 +122,15 @@ against s m e (fin u k d) t n h =
     rw (h .0, p, below-scale s (m * up e) t (n * down e) (down d) (down-pos d))
 
 -- ---- rounding away from zero, as below zero the greatest whole number not above is
-none-left : (q d : ℕ) → 0 < d → (q * d + (d - 1)) / d ≡ q
+pub none-left : (q d : ℕ) → 0 < d → (q * d + (d - 1)) / d ≡ q
 none-left q d h = digits-div q (omega arith)
 
-some-left : (q a d : ℕ) → q * d < a → a < q * d + d → (a + (d - 1)) / d ≡ suc q
+pub some-left : (q a d : ℕ) → q * d < a → a ≤ q * d + d → (a + (d - 1)) / d ≡ suc q
 some-left q a d h k =
     let r : a + (d - 1) ≡ suc q * d + (a - q * d - 1) = omega (arith, suc-mul q d) in
     rw r (digits-div (suc q) (omega arith))
 
-floor-is : (s : Bool) (m : ℕ) (e : ℤ) → T (small (fin s m e)) → floorOf (fin s m e) ≡ whole (wholeBelow s (m * up e) (down e))
+pub floor-is : (s : Bool) (m : ℕ) (e : ℤ) → T (small (fin s m e)) → floorOf (fin s m e) ≡ whole (wholeBelow s (m * up e) (down e))
 unfolding floorOf
 floor-is s m e h = rw (is-true (ltb (m * up e) (2 ^ 53 * down e)) h)
 
@@ -138,11 +138,11 @@ floor-is s m e h = rw (is-true (ltb (m * up e) (2 ^ 53 * down e)) h)
 down-one : (a d q : ℕ) → 0 < d → q * d ≤ a → a < q * d + d → below true a (sgn (negℤ (pos q))) (natAbs (negℤ (pos q)) * d) ≡ true → wholeBelow true a d ≡ negℤ (pos q) -ℤ pos 1
 down-one a d zero dp low high t =
     let k : 0 * d < a = omega (arith, ltb→lt 0 (a + 0 * d) (subst T (sym t) tt), zero-mul d) in
-    rw (some-left 0 a d k high)
+    rw (some-left 0 a d k (le-of-lt high))
 down-one a d (suc q) dp low high t =
     let k : suc q * d < a = ltb→lt (suc q * d) a (subst T (sym t) tt) in
     let z : q + 0 ≡ q = omega arith in
-    rw (some-left (suc q) a d k high, z)
+    rw (some-left (suc q) a d k (le-of-lt high), z)
 
 stay : (a d q : ℕ) → 0 < d → q * d ≤ a → a < q * d + d → below true a (sgn (negℤ (pos q))) (natAbs (negℤ (pos q)) * d) ≡ false → wholeBelow true a d ≡ negℤ (pos q)
 stay a d zero dp low high t =
@@ -156,7 +156,7 @@ stay a d (suc q) dp low high t =
 quot-low : (a d : ℕ) → a / d * d ≤ a
 quot-low a d = div-mul-le-self a d
 
-quot-high : (a d : ℕ) → 0 < d → a < a / d * d + d
+pub quot-high : (a d : ℕ) → 0 < d → a < a / d * d + d
 quot-high a d h = rw (← suc-mul (a / d) d) (div-lt-iff-lt-mul h .0 (lt-suc-self (a / d)))
 
 natAbs-neg : (q : ℕ) → natAbs (negℤ (pos q)) ≡ q

@@ -4,5 +4,8 @@ pub mod Roots
 pub mod Patterns
 pub mod RootSearch
 pub mod RootNearest
+pub mod RootLaws
 pub mod Abs
 pub mod Segments
+pub mod Cases
+pub mod Unique

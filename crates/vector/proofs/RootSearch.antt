@@ -43,7 +43,7 @@ at-shape b = go (b / 2 ^ 52) (b % 2 ^ 52) (omega arith)
     go zero t h = (t, 0, omega arith, sym (mul-one t))
     go (suc x) t h = (2 ^ 52 + t, x, omega arith, refl)
 
-at-step : (b : ℕ) → at b < at (b + 1)
+pub at-step : (b : ℕ) → at b < at (b + 1)
 unfolding at
 at-step b = ⊎-elim within across (lt-or-ge (b % 2 ^ 52 + 1) (2 ^ 52))
   where
@@ -67,14 +67,14 @@ at-step b = ⊎-elim within across (lt-or-ge (b % 2 ^ 52 + 1) (2 ^ 52))
         let r : (b + 1) % 2 ^ 52 ≡ 0 = omega arith in
         rw (q, r) (steps (b / 2 ^ 52) (b % 2 ^ 52) (omega arith))
 
-at-mono : (a b : ℕ) → a ≤ b → at a ≤ at b
+pub at-mono : (a b : ℕ) → a ≤ b → at a ≤ at b
 at-mono a b h = le-ind (λ (n : ℕ). at a ≤ at n) (le-refl (at a)) (λ m l k. le-trans k (le-of-lt (subst (λ (n : ℕ). at m < at n) (add-one m) (at-step m)))) b h
 
 mid-mono : (a b : ℕ) → a ≤ b → mid a ≤ mid b
 unfolding mid
 mid-mono a b h = add-le-add (at-mono (a - 1) (b - 1) (omega arith)) (at-mono a b h)
 
-under-down : (n a b : ℕ) → a ≤ b → T (under n b) → T (under n a)
+pub under-down : (n a b : ℕ) → a ≤ b → T (under n b) → T (under n a)
 unfolding under
 under-down n a b h t = lt→ltb (mid a * mid a) (n * 2 ^ 1076) (lt-of-le-of-lt (mul-le-mul (mid-mono a b h) (mid-mono a b h)) (ltb→lt (mid b * mid b) (n * 2 ^ 1076) t))
 
@@ -85,27 +85,8 @@ ends n a b p q r s =
     (λ g. ⊎-elim (λ e. sym e) (λ l. absurd (s (under-down n (b + 1) a (omega arith) p))) (eq-or-lt-of-le g))
     (lt-or-ge a b)
 
-module _ (n r : ℕ) (some : 0 < n) (most : n < 2 ^ 2098) (q : NearestUnits n (at r)) where
-  passes : T (under n r)
-  unfolding under mid at
-  passes = lt→ltb ((at (r - 1) + at r) * (at (r - 1) + at r)) (n * 2 ^ 1076) (go r refl)
-    where
-      go : (k : ℕ) → r ≡ k → (at (r - 1) + at r) * (at (r - 1) + at r) < n * 2 ^ 1076
-      go zero e = rw e (mul-pos some (pow-pos 1076))
-      go (suc k) e =
-          let w = at-shape (r - 1) in
-          let d : r - 1 + 1 ≡ r = omega arith in
-          let l : at (r - 1) < at r = rw d at (at-step (r - 1)) in
-          rw (w .3) (q .below (w .0) (w .1) (w .2) (rw (w .3) at l))
-
-  stops : T (under n (r + 1)) → ⊥
-  unfolding under mid
-  stops t =
-      let w = at-shape (r + 1) in
-      let d : r + 1 - 1 ≡ r = omega arith in
-      let l = q .above (w .0) (w .1) (w .2) (rw (w .3) at (at-step r)) in
-      lt-irrefl (n * 2 ^ 1076) (lt-trans (rw (← w .3) at l) (rw d at (ltb→lt ((at (r + 1 - 1) + at (r + 1)) * (at (r + 1 - 1) + at (r + 1))) (n * 2 ^ 1076) t)))
-
+-- the search ends at the last pattern whose midpoint with the one below is not above the root
+module _ (n : ℕ) (some : 0 < n) (most : n < 2 ^ 2098) where
   first : T (under n 0)
   unfolding under mid at
   first = lt→ltb 0 (n * 2 ^ 1076) (mul-pos some (pow-pos 1076))
@@ -114,11 +95,33 @@ module _ (n r : ℕ) (some : 0 < n) (most : n < 2 ^ 2098) (q : NearestUnits n (a
   unfolding under mid at
   over t = not-le-of-lt (ltb→lt (mid (2 ^ 63) * mid (2 ^ 63)) (n * 2 ^ 1076) t) (le-trans (mul-le-mul-right (2 ^ 1076) (le-of-lt most)) (lit≤ tt))
 
-  pub root-is : r ≡ rootBits n
+  pub found : T (under n (rootBits n)) × (T (under n (rootBits n + 1)) → ⊥)
   unfolding rootBits
-  root-is =
-      let g = search-is (under n) 63 0 first over in
-      ends n r (greatest (under n) 63 0) passes stops (g .0) (g .1)
+  found = search-is (under n) 63 0 first over
+
+  module _ (r : ℕ) (q : NearestUnits n (at r)) where
+    passes : T (under n r)
+    unfolding under mid at
+    passes = lt→ltb ((at (r - 1) + at r) * (at (r - 1) + at r)) (n * 2 ^ 1076) (go r refl)
+      where
+        go : (k : ℕ) → r ≡ k → (at (r - 1) + at r) * (at (r - 1) + at r) < n * 2 ^ 1076
+        go zero e = rw e (mul-pos some (pow-pos 1076))
+        go (suc k) e =
+            let w = at-shape (r - 1) in
+            let d : r - 1 + 1 ≡ r = omega arith in
+            let l : at (r - 1) < at r = rw d at (at-step (r - 1)) in
+            rw (w .3) (q .below (w .0) (w .1) (w .2) (rw (w .3) at l))
+
+    stops : T (under n (r + 1)) → ⊥
+    unfolding under mid
+    stops t =
+        let w = at-shape (r + 1) in
+        let d : r + 1 - 1 ≡ r = omega arith in
+        let l = q .above (w .0) (w .1) (w .2) (rw (w .3) at (at-step r)) in
+        lt-irrefl (n * 2 ^ 1076) (lt-trans (rw (← w .3) at l) (rw d at (ltb→lt ((at (r + 1 - 1) + at (r + 1)) * (at (r + 1 - 1) + at (r + 1))) (n * 2 ^ 1076) t)))
+
+    pub root-is : r ≡ rootBits n
+    root-is = ends n r (rootBits n) passes stops (found .0) (found .1)
 
 -- ---- what the branches of `sqrt` answer
 
@@ -130,7 +133,7 @@ pub worked : (x : Float) (r : ℕ) → T (fits binary64 x) → Above x → Neare
 unfolding rootOf unitsOf
 worked x r h (above m e) q =
     ap (λ (b : ℕ). root (ofBits binary64 b))
-    (root-is (unitsOf (fin false (suc m) e)) r (units-pos m e h) (units-lt m e h) (subst (λ (n : ℕ). NearestUnits n (at r)) (sym (units-bits m e h)) q))
+    (root-is (unitsOf (fin false (suc m) e)) (units-pos m e h) (units-lt m e h) r (subst (λ (n : ℕ). NearestUnits n (at r)) (sym (units-bits m e h)) q))
 
 pub endless : (x : Float) → lt nil x ≡ true → lt x (inf false) ≡ false → root x ≡ rootOf x
 unfolding lt rootOf

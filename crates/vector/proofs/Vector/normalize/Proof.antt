@@ -1,10 +1,7 @@
+-- `normalize` meets its contract: the test is that of the definition.
 use borrow.Author.Needs.{needs}
-use mathlib.Core.Path.{sym, ap, _∙_}
 use Rattle.vector.proofs.Vector.normalize.Statement.{statement}
 use Rattle.vector.proofs.Vector.normalize.Tie as tie
-use Rattle.vector.proofs.Vector.normalize.Reads as reads
-use Rattle.vector.proofs.Vector.normalize.Lts as lts
-use Rattle.vector.proofs.Vector.length.Reads as length-reads
 
 length-requires : tie.Need-length-requires
 length-requires c κs = search needs

@@ -1,3 +1,4 @@
+-- `abs` meets its contract: a law for each branch.
 use mathlib.Core.Path.{_≡_, refl, sym, subst}
 use mathlib.Core.Bool.{true, false}
 use lib.Dec.{T}

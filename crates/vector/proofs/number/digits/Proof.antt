@@ -3,8 +3,6 @@ use native.Mathlib.Omega.{arith}
 use Rattle.vector.proofs.Roots.{Step, start, taken, left, last}
 use Rattle.vector.proofs.number.digits.Statement.{statement}
 use Rattle.vector.proofs.number.digits.Tie as tie
-use Rattle.vector.proofs.number.digits.Reads as reads
-use Rattle.vector.proofs.number.digits.Lts as lts
 
 abbrev Inv-loop : tie.InvT-loop
 Inv-loop n rest₀ q₀ bit₀ rest q bit = Step n rest q bit

@@ -9,9 +9,6 @@ use mir.ValLaws.{toZ-ofZ}
 use Rattle.vector.proofs.Floors.{small, small-of, in-range, holds, one-less, cut-le, goes-down, stays, refuse-low, refuse-high}
 use Rattle.vector.proofs.number.floor.Statement.{statement}
 use Rattle.vector.proofs.number.floor.Tie as tie
-use Rattle.vector.proofs.number.floor.Reads as reads
-use Rattle.vector.proofs.number.floor.Lts as lts
-use Rattle.std.proofs.num.truncating_f64_to_i64.Reads as truncating-f64-to-i64-reads
 
 is-small : (c : tie.Then2) → T (small (c .before .before .args .x))
 unfolding ofBits neg

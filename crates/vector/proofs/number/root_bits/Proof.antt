@@ -4,10 +4,6 @@ use Rattle.vector.specs.Steps.{at}
 use Rattle.vector.proofs.Roots.{by-even, by-odd}
 use Rattle.vector.proofs.number.root_bits.Statement.{statement}
 use Rattle.vector.proofs.number.root_bits.Tie as tie
-use Rattle.vector.proofs.number.root_bits.Reads as reads
-use Rattle.vector.proofs.number.root_bits.Lts as lts
-use Rattle.vector.proofs.number.digits.Reads as digits-reads
-use Rattle.vector.proofs.number.split.Reads as split-reads
 
 split-requires : tie.Need-split-requires
 split-requires c κs = search needs

@@ -5,8 +5,6 @@ use Rattle.vector.specs.Steps.{at}
 use Rattle.vector.proofs.Roots.{Rising, normal, rises, rises-more, risen, still}
 use Rattle.vector.proofs.number.split.Statement.{statement}
 use Rattle.vector.proofs.number.split.Tie as tie
-use Rattle.vector.proofs.number.split.Reads as reads
-use Rattle.vector.proofs.number.split.Lts as lts
 
 abbrev Inv-loop : tie.InvT-loop
 Inv-loop b f t d₀ e₀ d e = Rising (at b) d e

@@ -1,0 +1,10 @@
+-- The paper's cases of floor and root, by computation.
+use mathlib.Core.Path.{refl}
+use lib.Ieee.{ofBits}
+use Rattle.vector.specs.Floor.{floorOf}
+use Rattle.vector.specs.Root.{rootOf}
+use Rattle.vector.specs.Cases.{Each, paper}
+
+pub cases : Each paper
+unfolding paper floorOf rootOf ofBits
+cases = (refl, (refl, (refl, (refl, (refl, (refl, tt))))))
