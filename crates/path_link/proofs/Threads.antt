@@ -6,8 +6,8 @@ use mathlib.Core.Logic.{_⊎_, inl, inr, _≢_, ⊎-elim}
 use mathlib.Core.List.{List, [], _∷_, _++_, append-assoc, append-nil}
 use Prim.Native.Nat.{ℕ, zero, suc, _+_, _-_, _*_, _/_, _<_, _≤_}
 use native.Mathlib.Omega.{arith}
-use lib.ListN.{length, getD, set, take, drop, replicate, length-set, length-replicate, List·getD-eq-default}
-use lib.Seq.{take-take}
+use lib.ListN.{length, getD, set, take, drop, replicate, length-set, length-replicate, length-append, List·getD-eq-default}
+use lib.Seq.{take-take, take-at}
 use Rattle.order.specs.Regions.{region, put, Off, Into2}
 use Rattle.path_link.specs.Layout.{LinksIn}
 use Rattle.path_ends.specs.Splice.{isZero, opposite, onward, run, from, pass, atFree, atLast, chainsOf, links, Walked, Drawn}
@@ -22,7 +22,7 @@ use Rattle.path_link.proofs.Picking.{fits, unfit-stroke}
 use Rattle.path_ends.proofs.Totals.{total-length}
 use Rattle.path_ends.proofs.Linking.{links-upto}
 use Rattle.path_link.proofs.Loop.{Walking, walking, inside, finish, turn}
-use Rattle.order.proofs.Parts.{length-put, get-off, get-in, cleared, put-same, put-append, length-region, get-region, into2-none, into2-size, into2-region, into2-first, into2-second, into2-as, into2-set, into2-then}
+use Rattle.order.proofs.Parts.{region-put, region-off, length-put, get-off, get-in, cleared, put-same, put-append, length-region, get-region, into2-none, into2-size, into2-region, into2-first, into2-second, into2-as, into2-set, into2-then}
 
 -- the two regions that a walk writes are apart
 pub away : (n : ℕ) → Off (6 * n) n (2 * n) n
@@ -425,3 +425,32 @@ module _ (s : List ℕ) (n : ℕ) where
   pub thread-short : n ≤ 196608 → length s < 7 * n → threaded 0 s ≡ threadIn s n
   unfolding threadIn
   thread-short f h = rw (le-leb n 196608 f, lt-leb (7 * n) (length s) h)
+
+-- what the answer says where there is room
+module _ (s s′ : List ℕ) (n r : ℕ) (H : 7 * n ≤ length s) (f : n ≤ 196608) (few : r ≤ n) (e : threaded r s′ ≡ threadIn s n) where
+  abbrev All : List ℕ
+  All = orderIn s n ++ replicate (5 * n - length (orderIn s n)) 0
+
+  thread-is : threaded r s′ ≡ threaded (length (orderIn s n)) (put s (2 * n) All)
+  unfolding threadIn
+  thread-is = rw (le-leb n 196608 f, le-leb (7 * n) (length s) H) at e
+
+  count-is : r ≡ length (orderIn s n)
+  count-is = ap (λ (t : Threaded). t .count) thread-is
+
+  words-is : s′ ≡ put s (2 * n) All
+  words-is = ap (λ (t : Threaded). t .words) thread-is
+
+  all-long : length All ≡ 5 * n
+  all-long = length-append (orderIn s n) (replicate (5 * n - length (orderIn s n)) 0) ∙ omega (arith, length-replicate {A = ℕ} (5 * n - length (orderIn s n)) 0, count-is)
+
+  pub threads-woven : Woven s s′ n r
+  threads-woven =
+      record {
+        few = few;
+        order =
+            ap (λ (z : List ℕ). region z (2 * n) r) words-is ∙ sym (take-take r (5 * n) (drop (2 * n) (put s (2 * n) All)) (omega arith)) ∙ ap (take r) (region-put s (2 * n) (5 * n) All all-long (omega arith))
+            ∙ take-at (orderIn s n) (replicate (5 * n - length (orderIn s n)) 0) r (sym count-is);
+        values = ap (λ (z : List ℕ). region z 0 (2 * n)) words-is ∙ region-off s (2 * n) All 0 (2 * n) (inr (omega arith)) (omega arith);
+        rest = λ b m h g. ap (λ (z : List ℕ). region z b m) words-is ∙ region-off s (2 * n) All b m (inl (omega (arith, all-long))) g;
+      }

@@ -292,6 +292,7 @@ fn link_and_walk(s: &mut [u32], n: usize) -> usize
 // an end times two for each, plus 1 for a chain's first, and answers how many. The words after it up to 7 n are zero.
 pub fn thread(s: &mut [u32], n: usize) -> usize
     ensures { λ r. ⌜ threaded r (now (s .exit)) ≡ threadIn (now (s .entry)) n ⌝ }
+    ensures { λ r. ⌜ r ≤ n ⌝ }
 {
     if MOST_STROKES < n {
         return 0;

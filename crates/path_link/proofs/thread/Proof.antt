@@ -1,3 +1,4 @@
+use native.Mathlib.Omega.{arith}
 use mathlib.Core.Path.{refl}
 use Prim.Native.Nat.{_*_, _≤_}
 use lib.ListN.{length}
@@ -7,13 +8,13 @@ use Rattle.path_link.proofs.thread.Statement.{statement}
 use Rattle.path_link.proofs.thread.Tie as tie
 
 returns : tie.Need-returns
-returns c = thread-many (c .before .before .args .s .now) (c .before .before .args .n) (c .if1 .taken)
+returns c = (thread-many (c .before .before .args .s .now) (c .before .before .args .n) (c .if1 .taken), omega arith)
 
 mul-if2 : tie.Need-mul-if2
 mul-if2 c = search needs
 
 returns-2 : tie.Need-returns-2
-returns-2 c = thread-short (c .before .before .before .args .s .now) (c .before .before .before .args .n) (c .before .if1 .left) (c .if2 .taken)
+returns-2 c = (thread-short (c .before .before .before .args .s .now) (c .before .before .before .args .n) (c .before .if1 .left) (c .if2 .taken), omega arith)
 
 link-and-walk-requires : tie.Need-link-and-walk-requires
 link-and-walk-requires c κs = search needs
@@ -51,9 +52,11 @@ returns-3 c =
     let n = z .args .n in
     let s = z .args .s .now in
     let w = c .before .before .before .before .before .before .link-and-walk in
-    let h : 7 * n ≤ length s = c .before .before .before .before .before .before .before .before .if2 .left in
-    thread-yes s n h (w .last .0) (w .kept .0) (w .result) (w .ensures) (c .before .before .before .before .before .before .before .before .before .if1 .left) _
-    (all-woven s n h (w .last .0) (w .kept .0) (w .result) (w .ensures) _ refl (c .before .before .clear .last .0) (c .before .before .clear .ensures))
+    let h : 7 * n ≤ length s = c .before .before .before .before .before .before .before .before .if2 .left in (
+      thread-yes s n h (w .last .0) (w .kept .0) (w .result) (w .ensures) (c .before .before .before .before .before .before .before .before .before .if1 .left) _
+          (all-woven s n h (w .last .0) (w .kept .0) (w .result) (w .ensures) _ refl (c .before .before .clear .last .0) (c .before .before .clear .ensures)),
+      w .ensures .few,
+    )
 
 pub thread-spec : {M : Type 1} → statement M
 thread-spec =
