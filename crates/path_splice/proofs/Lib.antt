@@ -4,3 +4,4 @@ pub mod Readings
 pub mod Answers
 pub mod Unique
 pub mod Cases
+pub mod Pairs

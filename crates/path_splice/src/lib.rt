@@ -15,10 +15,12 @@ ghost use mathlib.Core.List.{[], _∷_, reverse};
 ghost use Prim.Native.Nat.{ℕ, _+_, _-_, _*_, _/_, _<_, _≤_};
 ghost use lib.ListN.{length, getD, take, replicate};
 ghost use lib.Dec.{eqb};
-ghost use Rattle.order.specs.Regions.{region, put};
+ghost use Rattle.refusal.specs.Said.{accepted};
+ghost use Rattle.order.specs.Regions.{region, put, Into2};
 ghost use Rattle.path.specs.Strokes.{goodStarts};
 ghost use Rattle.path_ends.specs.Splice.{valueAt, present, splice as spliceOf};
 ghost use Rattle.path_splice.specs.Text.{strokesIn, part, mark, textOf, marksOf, ReadOut, Filled, LaidOut};
+ghost use Rattle.path_splice.specs.Pairs.{Paired, Drawn, fits as fitsOf, pairsLeft};
 ghost use Rattle.path_splice.specs.Lent.{verdictOf, said, left, spliceLeft};
 
 // What a splice answers: how many points and starts were written, or why none were.
@@ -265,4 +267,72 @@ pub fn splice(
             };
         }
     }
+}
+
+// Writes that each of n strokes of two points is there, and where it begins.
+fn fill_pairs(s: &mut [u32], n: usize)
+    requires { ⌜ (8 * n ≤ length (now s)) × (n ≤ 196608) ⌝ }
+    ensures { λ _. ⌜ Into2 (now (s .entry)) (now (s .exit)) (6 * n) n (7 * n) n (Paired n) ⌝ }
+{
+    let mut i: usize = 0;
+    while i < n {
+        s[6 * n + i] = 1;
+        s[7 * n + i] = (2 * i) as u32;
+        i += 1;
+    }
+}
+
+// Writes the spliced strokes of the first 2 n words.
+fn draw_pairs(s: &mut [u32], n: usize, out_points: &mut [u32], out_starts: &mut [u32]) -> Place
+    requires { ⌜ (8 * n ≤ length (now s)) × (n ≤ 196608) × (2 * n ≤ length (now «out_points»)) × (n ≤ length (now «out_starts»)) ⌝ }
+    ensures { λ r. ⌜ Drawn (now (s .entry)) (now (s .exit)) n (now («out_points» .entry)) (now («out_starts» .entry))
+        (now («out_points» .exit)) (now («out_starts» .exit)) (r .points) (r .starts) ⌝ }
+{
+    fill_pairs(s, n);
+    let c = thread(s, n);
+    let m = 2 * n;
+    let e = m + c;
+    let t = 7 * n;
+    let h = 8 * n;
+    let w = &s[..];
+    read_out(&w[..m], &w[t..h], &w[m..e], out_points, out_starts)
+}
+
+// Whether n strokes of two points have room.
+fn fits(n: usize, words: usize, room: usize, start_room: usize) -> bool
+    ensures { λ r. ⌜ r ≡ fitsOf n words room «start_room» ⌝ }
+{
+    if MOST_STROKES < n {
+        return false;
+    }
+    if words < 8 * n {
+        return false;
+    }
+    if room < 2 * n {
+        return false;
+    }
+    n <= start_room
+}
+
+// For a drawing: splices n strokes of two points each that lie in the first 2 n words of s, into lent room.
+// The first 8 n words are zero after it. Where it does not fit, nothing is changed and nothing written.
+pub fn splice_pairs(
+    s: &mut [u32],
+    n: usize,
+    out_points: &mut [u32],
+    out_starts: &mut [u32],
+) -> Place
+    ensures { λ r. ⌜ left (accepted (r .points ∷ r .starts ∷ [])) (now (s .exit)) (now («out_points» .exit)) (now («out_starts» .exit))
+        ≡ pairsLeft (now (s .entry)) n (now («out_points» .entry)) (now («out_starts» .entry)) ⌝ }
+{
+    if !fits(n, s.len(), out_points.len(), out_starts.len()) {
+        return Place {
+            points: 0,
+            starts: 0,
+        };
+    }
+    let p = draw_pairs(s, n, out_points, out_starts);
+    let h = 8 * n;
+    clear(&mut s[..h]);
+    p
 }
