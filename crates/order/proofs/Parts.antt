@@ -110,6 +110,21 @@ put-comm s a l b k o =
     go j h (after p) (within i q e) = second j i h q e (inr p)
     go j h (within i p e) (within i′ q e′) = absurd (⊎-elim (λ u. omega arith) (λ u. omega arith) o)
 
+-- two lists that agree outside of the region
+pub put-same : (s t : List ℕ) (a : ℕ) (l : List ℕ) → length s ≡ length t → ((j : ℕ) → j < length s → (j < a) ⊎ (a + length l ≤ j) → getD s j 0 ≡ getD t j 0) → put s a l ≡ put t a l
+put-same s t a l e f =
+    by-index (put s a l) (put t a l) (simp length-put e) (λ j h. go j (rw length-put at h) (where-is a (length l) j))
+  where
+    go : (j : ℕ) → j < length s → Where a (length l) j → getD (put s a l) j 0 ≡ getD (put t a l) j 0
+    go j h (before p) = get-off s a l j (inl p) ∙ f j h (inl p) ∙ sym (get-off t a l j (inl p))
+    go j h (after p) = get-off s a l j (inr p) ∙ f j h (inr p) ∙ sym (get-off t a l j (inr p))
+    go j h (within i p q) = rw q (get-in s a l i p (omega arith) ∙ sym (get-in t a l i p (omega arith)))
+
+pub put-append : (s : List ℕ) (a : ℕ) (l k : List ℕ) → put (put s a l) (a + length l) k ≡ put s a (l ++ k)
+unfolding put
+put-append s a [] k = let e : a + 0 ≡ a = omega arith in rw e
+put-append s a (x ∷ l) k = let e : a + suc (length l) ≡ suc a + length l = omega arith in rw e (put-append (set s a x) (suc a) l k)
+
 -- one element
 put-one : (s : List ℕ) (j x : ℕ) → set s j x ≡ put s j (x ∷ [])
 unfolding put

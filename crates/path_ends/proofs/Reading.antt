@@ -8,7 +8,7 @@ use Prim.Native.Nat.{ℕ, zero, suc, _+_, _-_, _*_, _/_, _%_, _<_, _≤_}
 use native.Mathlib.Omega.{arith}
 use native.Mathlib.Decide.{ℕ-discrete}
 use lib.ListN.{length, getD, set, drop, length-append, length-reverse}
-use Rattle.path_ends.specs.Splice.{opposite, lastOf, firstOf, present, endOf, turned, valueAt, readFrom, joined, readChain}
+use Rattle.path_ends.specs.Splice.{opposite, lastOf, firstOf, present, endOf, turned, valueAt, readFrom, added, readChain}
 use Rattle.path_ends.specs.Demand.{sum, along}
 use Rattle.path_ends.proofs.Ends.{opp-stroke, opp-side}
 use Rattle.path_ends.proofs.Walking.{Chain, end, next, Stops, weigh}
@@ -146,19 +146,19 @@ module _ {A : Type 0} where
         }
 
     -- what follows a stroke is the rest of the chain without its first point
-    joined-is : (f : ℕ) (c : List ℕ) → Full (readFrom ss f) → joined ss (f ∷ c) ≡ drop 1 (readChain ss (f ∷ c))
-    unfolding joined readChain
+    joined-is : (f : ℕ) (c : List ℕ) → Full (readFrom ss f) → added ss (f ∷ c) ≡ drop 1 (readChain ss (f ∷ c))
+    unfolding added readChain
     joined-is f c h = go (readFrom ss f) h
       where
-        go : (s : List A) → Full s → drop 1 s ++ joined ss c ≡ drop 1 (s ++ joined ss c)
+        go : (s : List A) → Full s → drop 1 s ++ added ss c ≡ drop 1 (s ++ added ss c)
         go s full = refl
 
-    joined-of : {e₀ f : ℕ} {c : List ℕ} → Chain link (Live ss) e₀ f c → joined ss c ≡ drop 1 (readChain ss c)
+    joined-of : {e₀ f : ℕ} {c : List ℕ} → Chain link (Live ss) e₀ f c → added ss c ≡ drop 1 (readChain ss c)
     joined-of (end {e = e} h s) = joined-is e [] (read-full d ss e h)
     joined-of (next {e = e} {c = c} h l C) = joined-is e c (read-full d ss e h)
 
     pub reads : {e₀ e : ℕ} {c : List ℕ} → Chain link (Live ss) e₀ e c → Reads d ss link e₀ e c (readChain ss c)
-    unfolding readChain joined
+    unfolding readChain added
     reads {e₀} (end {e = e} h s) = rw append-nil (one-stroke e₀ e h s)
     reads {e₀} (next {e = e} {f = f} {c = c} h l C) =
         let R = reads C in

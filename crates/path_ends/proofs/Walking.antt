@@ -179,8 +179,8 @@ module _ (link : ℕ → ℕ) (back : (e f : ℕ) → link e ≡ suc f → link 
       Rec : Type 0
       Rec = (f : ℕ) → link (opposite e) ≡ suc f → Todo (set t (e / 2) 0) f → Ran (set t (e / 2) 0) e₀ f (run link k (set t (e / 2) 0) f)
 
-      joined : (f : ℕ) → link (opposite e) ≡ suc f → (r : Drawn) → Ran (set t (e / 2) 0) e₀ f r → Ran t e₀ e (record { chain = e ∷ r .chain; left = r .left })
-      joined f l r R =
+      added : (f : ℕ) → link (opposite e) ≡ suc f → (r : Drawn) → Ran (set t (e / 2) 0) e₀ f r → Ran t e₀ e (record { chain = e ∷ r .chain; left = r .left })
+      added f l r R =
           record {
             closed = R .closed;
             less = λ s d. R .less s (done-kept t (e / 2) s d);
@@ -193,7 +193,7 @@ module _ (link : ℕ → ℕ) (back : (e f : ℕ) → link e ≡ suc f → link 
           → Ran t e₀ e (after e (set t (e / 2) 0) (cond b 0 (suc f)) (run link k (set t (e / 2) 0) (down (cond b 0 (suc f)))))
       turn f l rec true q =
           halt t e₀ e h (lv (e / 2) h) M (λ g m. let fg : f ≡ g = omega arith in rw (← fg) (zero-of (getD (set t (e / 2) 0) (f / 2) 0) q)) (fair-exit t e₀ e p h)
-      turn f l rec false q = joined f l (run link k (set t (e / 2) 0) f) (rec f l (nonzero-of (getD (set t (e / 2) 0) (f / 2) 0) q))
+      turn f l rec false q = added f l (run link k (set t (e / 2) 0) f) (rec f l (nonzero-of (getD (set t (e / 2) 0) (f / 2) 0) q))
 
       go : (n : ℕ) → link (opposite e) ≡ n → Rec → Ran t e₀ e (after e (set t (e / 2) 0) (onward (set t (e / 2) 0) n) (run link k (set t (e / 2) 0) (down (onward (set t (e / 2) 0) n))))
       go zero l rec = halt t e₀ e h (lv (e / 2) h) M (λ g m. absurd (omega arith)) (fair-exit t e₀ e p h)
