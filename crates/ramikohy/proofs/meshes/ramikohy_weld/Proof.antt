@@ -4,8 +4,8 @@ use denote.Ref.{now}
 use Rattle.mesh_weld.specs.Call.{said}
 use Rattle.ramikohy.proofs.Calls.{welded, refuse-weld}
 use borrow.Author.Needs.{needs}
-use Rattle.ramikohy.proofs.mesh.ramikohy_weld.Statement.{statement}
-use Rattle.ramikohy.proofs.mesh.ramikohy_weld.Tie as tie
+use Rattle.ramikohy.proofs.meshes.ramikohy_weld.Statement.{statement}
+use Rattle.ramikohy.proofs.meshes.ramikohy_weld.Tie as tie
 
 weld-requires : tie.Need-weld-requires
 weld-requires c κs = search needs

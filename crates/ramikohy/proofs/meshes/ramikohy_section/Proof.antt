@@ -4,8 +4,8 @@ use Rattle.mesh_section.specs.declared.Plane.{Plane}
 use Rattle.mesh_section.specs.Call.{said, sectionLeft}
 use Rattle.ramikohy.proofs.Calls.{wrote, refuse}
 use borrow.Author.Needs.{needs}
-use Rattle.ramikohy.proofs.mesh.ramikohy_section.Statement.{statement}
-use Rattle.ramikohy.proofs.mesh.ramikohy_section.Tie as tie
+use Rattle.ramikohy.proofs.meshes.ramikohy_section.Statement.{statement}
+use Rattle.ramikohy.proofs.meshes.ramikohy_section.Tie as tie
 
 point-requires : tie.Need-point-requires
 point-requires c κs = search needs
