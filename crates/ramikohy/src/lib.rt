@@ -16,6 +16,9 @@ ghost use Rattle.vector.specs.Abs.{absOf};
 ghost use Rattle.ramikohy.specs.Points.{pointOf, matrixOf};
 ghost use Rattle.ramikohy.specs.Status.{left, leftBy, leftByUnit};
 
+pub mod meshes;
+pub mod strokes;
+
 // The status of an answer that there is none: no refusal has this number.
 pub const NONE: u32 = 255;
 

@@ -1,0 +1,6 @@
+pub mod Starts
+pub mod Gathers
+pub mod Pushes
+pub mod Points
+pub mod Tests
+pub mod Lefts

@@ -1,0 +1,4 @@
+pub mod Strokes
+pub mod Laid
+pub mod Left
+pub mod Tests

@@ -1,0 +1,184 @@
+// Strokes: a lent list of elements and a lent table of starts, and what the calls on points share.
+use refusal::MOST_POINTS;
+use refusal::MOST_STROKES;
+use vector::Vector;
+use vector::number::abs;
+ghost use mathlib.Core.Path.{_≡_};
+ghost use Prim.Native.Nat.{_+_, _*_};
+ghost use lib.ListN.{getD, set};
+ghost use lib.Ieee.{nan};
+ghost use Rattle.path.specs.Strokes.{goodStarts, pointAt};
+ghost use Rattle.path.specs.Laid.{putPoint};
+ghost use Rattle.path.specs.Tests.{shapedOf, countedOf, coordinateGood, coordinatesGood, stepGood, sizeGood};
+
+// Where the next point and the next start go.
+pub struct Place {
+    pub points: usize,
+    pub starts: usize,
+}
+
+// Whether `starts` is a table for n elements: from 0 on, never falling, never past n.
+pub fn rising(starts: &[u32], n: usize) -> bool
+    ensures { λ r. ⌜ r ≡ goodStarts n (now (starts .entry)) ⌝ }
+{
+    if starts.len() == 0 {
+        return n == 0;
+    }
+    if starts[0] != 0 {
+        return false;
+    }
+    let mut i = 1;
+    let mut prev: u32 = 0;
+    while i < starts.len() {
+        let s = starts[i];
+        if s < prev {
+            return false;
+        }
+        if n < s as usize {
+            return false;
+        }
+        prev = s;
+        i += 1;
+    }
+    true
+}
+
+// The place after the last of stroke i's elements, of n in all.
+pub fn end_of(starts: &[u32], i: usize, n: usize) -> usize
+    ensures { λ r. ⌜ r ≡ getD (now (starts .entry)) (i + 1) n ⌝ }
+{
+    if i < starts.len() {
+        let j = i + 1;
+        if j < starts.len() {
+            return starts[j] as usize;
+        }
+    }
+    n
+}
+
+// What is read past the end: NaN.
+fn nothing() -> f64
+    ensures { λ r. ⌜ r ≡ nan ⌝ }
+{
+    0.0 / 0.0
+}
+
+// The number at place k, NaN past the end.
+fn number_at(points: &[f64], k: usize) -> f64
+    ensures { λ r. ⌜ r ≡ getD (now (points .entry)) k nan ⌝ }
+{
+    if k < points.len() {
+        return points[k];
+    }
+    nothing()
+}
+
+// The point at place i, NaN past the end.
+pub fn point_at(points: &[f64], i: usize) -> Vector
+    ensures { λ r. ⌜ r ≡ pointAt (now (points .entry)) i ⌝ }
+{
+    if points.len() <= i {
+        let x = nothing();
+        return Vector { x: x, y: x, z: x };
+    }
+    let k = i * 3;
+    Vector {
+        x: number_at(points, k),
+        y: number_at(points, k + 1),
+        z: number_at(points, k + 2),
+    }
+}
+
+// Stores a number at place k; past the end nothing.
+fn put(out: &mut [f64], k: usize, x: f64)
+    ensures { λ _. ⌜ now (out .exit) ≡ set (now (out .entry)) k x ⌝ }
+{
+    if k < out.len() {
+        out[k] = x;
+    }
+}
+
+// Stores a point at place i; past the end nothing.
+pub fn put_point(out: &mut [f64], i: usize, v: Vector)
+    ensures { λ _. ⌜ now (out .exit) ≡ putPoint (now (out .entry)) i v ⌝ }
+{
+    if i < out.len() {
+        let k = i * 3;
+        put(out, k, v.x);
+        put(out, k + 1, v.y);
+        put(out, k + 2, v.z);
+    }
+}
+
+// Stores a number in a table or a list of numbers at place k; past the end nothing.
+pub fn put_number(out: &mut [u32], k: usize, x: u32)
+    ensures { λ _. ⌜ now (out .exit) ≡ set (now (out .entry)) k x ⌝ }
+{
+    if k < out.len() {
+        out[k] = x;
+    }
+}
+
+// Whether the points come three numbers each and the table is good for them.
+pub fn shaped(points: &[f64], starts: &[u32]) -> bool
+    ensures { λ r. ⌜ r ≡ shapedOf (now (points .entry)) (now (starts .entry)) ⌝ }
+{
+    if points.len() % 3 != 0 {
+        return false;
+    }
+    rising(starts, points.len() / 3)
+}
+
+// Whether so many points and strokes are within the limits.
+pub fn counted(points: usize, strokes: usize) -> bool
+    ensures { λ r. ⌜ r ≡ countedOf points strokes ⌝ }
+{
+    if MOST_POINTS < points {
+        return false;
+    }
+    strokes <= MOST_STROKES
+}
+
+// The greatest magnitude of a number handed to a call.
+const MOST_NUMBER: f64 = 1048576.0;
+
+// Whether a coordinate or a matrix entry is within the bound.
+pub fn coordinate_good(x: f64) -> bool
+    ensures { λ r. ⌜ r ≡ coordinateGood x ⌝ }
+{
+    abs(x) <= MOST_NUMBER
+}
+
+// Whether all coordinates are.
+pub fn coordinates_good(xs: &[f64]) -> bool
+    ensures { λ r. ⌜ r ≡ coordinatesGood (now (xs .entry)) ⌝ }
+{
+    let mut i = 0;
+    while i < xs.len() {
+        if !coordinate_good(xs[i]) {
+            return false;
+        }
+        i += 1;
+    }
+    true
+}
+
+// Whether a step is above 0 and within the bound.
+pub fn step_good(x: f64) -> bool
+    ensures { λ r. ⌜ r ≡ stepGood x ⌝ }
+{
+    if 0.0 < x {
+        return x <= MOST_NUMBER;
+    }
+    false
+}
+
+// Whether a width or a height is at least 0 and within the bound.
+pub fn size_good(x: f64) -> bool
+    ensures { λ r. ⌜ r ≡ sizeGood x ⌝ }
+{
+    if 0.0 <= x {
+        return x <= MOST_NUMBER;
+    }
+    false
+}
