@@ -14,6 +14,11 @@
 
 use crate::c;
 
+pub use crate::calls::chop::lent as chop;
+pub use crate::calls::section::lent as section;
+pub use crate::calls::splice::lent as splice;
+pub use crate::calls::weld::lent as weld;
+
 /// Defines a function over the archive's function of the same name.
 macro_rules! lend {
     ($(#[$doc:meta])* $name:ident = $inner:ident($($arg:ident: $type:ty),*) $(-> $out:ty)?) => {

@@ -15,14 +15,20 @@
 //! ```
 
 pub mod c;
+pub mod calls;
 pub mod lent;
 
 mod matrix;
+mod mesh;
 mod number;
 mod refusal;
+mod strokes;
 mod vector;
 
+pub use calls::{chop::chop, section::section, splice::splice, weld::weld};
 pub use matrix::Matrix;
+pub use mesh::{Mesh, Plane};
 pub use number::{abs, floor, sqrt};
 pub use refusal::Refusal;
+pub use strokes::Strokes;
 pub use vector::Vector;

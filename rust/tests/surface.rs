@@ -95,7 +95,7 @@ fn header() -> Surface {
 
 #[test]
 fn the_three_languages_name_the_same_functions() {
-    let source = read("crates/ramikohy/src/lib.rt");
+    let source = ["lib", "strokes", "meshes"].map(|file| read(&format!("crates/ramikohy/src/{file}.rt"))).concat();
     let rattle = like_rust(&source, "pub extern \"C\" fn ", "\n    ensures");
     let rust = like_rust(&read("rust/src/c.rs"), "pub fn ", ";\n");
     assert_eq!(rattle.len(), source.matches("#[no_mangle]").count());

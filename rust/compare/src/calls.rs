@@ -16,6 +16,7 @@ pub mod weld;
 
 use crate::random::Random;
 use crate::runs::Seen;
+use ramikohy::Refusal;
 use std::fmt::Debug;
 
 /// What a call is lent to write to: scratch of words and of numbers (by their bits), and room for points and starts. A
@@ -58,6 +59,19 @@ impl<P: Copy> Lent<P> {
     }
 }
 
+/// What a call left that answered so.
+pub fn left<P>(answer: Result<[usize; 2], Refusal>, lent: Lent<P>) -> Left<P> {
+    match answer {
+        Ok(counts) => Left { status: 0, counts: counts.to_vec(), lent },
+        Err(why) => Left { status: why as u32, counts: Vec::new(), lent },
+    }
+}
+
+/// Coordinates lent by their bits, as numbers.
+pub fn numbers(bits: &[u64]) -> Vec<f64> {
+    bits.iter().map(|&word| f64::from_bits(word)).collect()
+}
+
 /// A call on buffers that the archive has, by its name and its run.
 pub struct Linked {
     pub name: &'static str,
@@ -65,7 +79,12 @@ pub struct Linked {
 }
 
 /// The calls that the archive has. A call is added here when its function is linked.
-pub const LINKED: &[Linked] = &[];
+pub const LINKED: &[Linked] = &[
+    Linked { name: "splice", run: splice::run },
+    Linked { name: "chop", run: chop::run },
+    Linked { name: "weld", run: weld::run },
+    Linked { name: "section", run: section::run },
+];
 
 /// Runs a call on the inputs that are tried always and on `count` random ones, and compares all that the port leaves.
 pub fn run<I: Debug, P: PartialEq + Debug>(

@@ -7,6 +7,15 @@ pub struct Mesh {
 }
 
 impl Mesh {
+    /// Every edge once, by its two vertices, the smaller first, in their order: what a drawing of all edges splices.
+    pub fn edges(&self) -> Vec<[u32; 2]> {
+        let sides = self.faces.iter().flat_map(|&[a, b, c]| [[a, b], [b, c], [c, a]]);
+        let mut edges: Vec<[u32; 2]> = sides.map(|[a, b]| [a.min(b), a.max(b)]).collect();
+        edges.sort_unstable();
+        edges.dedup();
+        edges
+    }
+
     /// The corners of every face, one after the other: what a weld is handed.
     pub fn corners(&self) -> Vec<[f64; 3]> {
         self.faces.iter().flatten().map(|&v| self.vertices[v as usize]).collect()

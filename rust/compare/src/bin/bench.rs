@@ -30,7 +30,7 @@ const RUNS: usize = 25;
 mod calls {
     use compare::bench::{Call, best};
     use compare::torus::Mesh;
-    use original::eps_1e9::{matrix::Matrix, vector::Vector};
+    use original::eps_1e9::{matrix::Matrix, mesh, path::Paths, plane::Plane, triangle::Triangle, vector::Vector};
     use ramikohy::lent;
     use std::hint::black_box;
 
@@ -39,6 +39,10 @@ mod calls {
         Call { name: "normalize", port: normalize_port, original: normalize_original },
         Call { name: "segment_distance", port: segment_port, original: segment_original },
         Call { name: "mul_position_w", port: position_port, original: position_original },
+        Call { name: "chop into five steps a span", port: chop_port, original: chop_original },
+        Call { name: "splice of all edges", port: splice_port, original: splice_original },
+        Call { name: "weld", port: weld_port, original: weld_original },
+        Call { name: "section", port: section_port, original: section_original },
     ];
 
     /// A view of the torus with perspective.
@@ -119,6 +123,95 @@ mod calls {
         best(runs, || {
             input.iter().zip(&mut out).for_each(|(a, b)| *b = black_box(&view).mul_position_w(*a));
             black_box(&mut out);
+        })
+    }
+
+    /// The vertices as rings, and a step that cuts their mean span into five.
+    fn rings(mesh: &Mesh) -> (Vec<f64>, Vec<u32>, f64) {
+        let points = mesh.vertices.as_flattened().to_vec();
+        let starts = (0..mesh.vertices.len() as u32).step_by(64).collect();
+        let spans = mesh.vertices.windows(2).map(|w| ramikohy::lent::distance(&w[0], &w[1]));
+        (points, starts, spans.sum::<f64>() / mesh.vertices.len() as f64 / 5.0)
+    }
+
+    fn chop_port(mesh: &Mesh, runs: usize) -> f64 {
+        let (points, starts, step) = rings(mesh);
+        let (mut out_points, mut out_starts) = (vec![0.0; points.len() * 16], starts.clone());
+        best(runs, || {
+            lent::chop(&points, &starts, step, &mut out_points, &mut out_starts).unwrap();
+            black_box((&mut out_points, &mut out_starts));
+        })
+    }
+
+    fn chop_original(mesh: &Mesh, runs: usize) -> f64 {
+        let (points, _, step) = rings(mesh);
+        let vectors: Vec<Vector> = points.chunks_exact(3).map(|p| Vector::new(p[0], p[1], p[2])).collect();
+        let mut paths = Paths::new();
+        vectors.chunks(64).for_each(|ring| paths.new_path().extend(ring.iter().copied()));
+        best(runs, || {
+            black_box(paths.chop(step));
+        })
+    }
+
+    fn splice_port(mesh: &Mesh, runs: usize) -> f64 {
+        let points = mesh.edges().concat();
+        let starts: Vec<u32> = (0..points.len() as u32 / 2).map(|i| 2 * i).collect();
+        let (mut scratch, mut out_points, mut out_starts) = (vec![0; 8 * starts.len()], points.clone(), starts.clone());
+        best(runs, || {
+            lent::splice(&points, &starts, &mut scratch, &mut out_points, &mut out_starts).unwrap();
+            black_box((&mut out_points, &mut out_starts));
+        })
+    }
+
+    fn splice_original(mesh: &Mesh, runs: usize) -> f64 {
+        let mut paths = Paths::new();
+        mesh.edges().iter().for_each(|edge| paths.new_path().extend(edge.map(|v| v as usize)));
+        best(runs, || {
+            black_box(paths.splice_exact());
+        })
+    }
+
+    fn weld_port(mesh: &Mesh, runs: usize) -> f64 {
+        let corners = mesh.corners();
+        let (mut vertices, mut indices) = (vec![0.0; corners.len() * 3], vec![0; corners.len()]);
+        let mut scratch = vec![0; 4 * corners.len()];
+        best(runs, || {
+            lent::weld(corners.as_flattened(), &mut scratch, &mut vertices, &mut indices).unwrap();
+            black_box((&mut vertices, &mut indices));
+        })
+    }
+
+    fn weld_original(mesh: &Mesh, runs: usize) -> f64 {
+        let corners = vectors(mesh);
+        best(runs, || {
+            black_box(mesh::weld(&corners));
+        })
+    }
+
+    /// A slanted plane through the torus.
+    const PLANE: ramikohy::Plane = ramikohy::Plane { point: [0.1, 0.2, 0.05], normal: [0.3, 0.9, 0.2] };
+
+    fn section_port(mesh: &Mesh, runs: usize) -> f64 {
+        let (vertices, indices) = (mesh.vertices.as_flattened(), mesh.faces.as_flattened());
+        let (mut points, mut starts) = (vec![0.0; 6 * mesh.faces.len()], vec![0; mesh.faces.len()]);
+        best(runs, || {
+            lent::section(vertices, indices, &PLANE, 1e-9, &mut points, &mut starts).unwrap();
+            black_box((&mut points, &mut starts));
+        })
+    }
+
+    fn section_original(mesh: &Mesh, runs: usize) -> f64 {
+        let vector = |[x, y, z]: [f64; 3]| Vector::new(x, y, z);
+        let plane = Plane::new(vector(PLANE.point), vector(PLANE.normal));
+        let at = |v: u32| vector(mesh.vertices[v as usize]);
+        best(runs, || {
+            let mut paths = Paths::new();
+            for &[a, b, c] in &mesh.faces {
+                if let Some((p, q)) = plane.intersect_triangle(&Triangle::new(at(a), at(b), at(c))) {
+                    paths.new_path().extend([p, q]);
+                }
+            }
+            black_box(paths);
         })
     }
 }

@@ -4,6 +4,7 @@ use super::strokes::{bits, bits_of, coordinates, paths_of, split, table};
 use super::{Left, Lent, dirty, room};
 use crate::random::Random;
 use crate::reading;
+use crate::runs::Seen;
 
 #[derive(Clone, Debug)]
 pub struct Input {
@@ -19,8 +20,12 @@ pub fn make(random: &mut Random) -> Input {
     let count = random.below(8);
     let points = coordinates(random, count);
     let starts = table(random, points.len() / 3);
-    let steps = [0.25, 0.3, 1.0, 2.5, 1048576.0, 0.0, -0.0, -1.0, f64::NAN, 1e-9, 1e-300, 1048577.0];
-    let pick = if random.once_in(3) { random.below(steps.len()) } else { random.below(5) };
+    let steps = [0.25, 0.3, 1.0, 2.5, 1048576.0, 0.0, -0.0, -1.0, f64::NAN, 1048577.0, 1e-6, 1e-300];
+    let pick = match random.below(300) {
+        0 => random.below(steps.len()),
+        1..=50 => random.below(steps.len() - 2),
+        _ => random.below(5),
+    };
     let mut input = Input { points, starts, step: steps[pick], lent: dirty(random, [0; 3], bits_of_any) };
     let written = cut(&input).unwrap_or_default();
     let strokes = written.iter().filter(|n| **n > 0).count();
@@ -76,4 +81,17 @@ pub fn judged(input: &Input) -> Left<u64> {
     }
     let chopped = paths_of!(eps_1e9, split(points, starts, 3)).chop(*step);
     lent.accepted(&bits_of!(chopped), 3, &[])
+}
+
+/// What the port leaves.
+fn port(input: &Input) -> Left<u64> {
+    let (mut room, mut starts) = (super::numbers(&input.lent.points), input.lent.starts.clone());
+    let answer = ramikohy::lent::chop(&input.points, &input.starts, input.step, &mut room, &mut starts);
+    let counts = answer.map(|wrote| [wrote.points, wrote.starts]);
+    super::left(counts, Lent { points: room.iter().map(|&x| bits(x)).collect(), starts, ..input.lent.clone() })
+}
+
+/// Runs the port beside the original.
+pub fn run(count: u64, seed: u64) -> Seen {
+    super::run(std::iter::empty(), make, judged, port, (count, seed))
 }

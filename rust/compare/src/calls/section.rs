@@ -4,6 +4,7 @@ use super::mesh::{self, mostly};
 use super::strokes::bits;
 use super::{Left, Lent, dirty, room};
 use crate::random::Random;
+use crate::runs::Seen;
 
 #[derive(Clone, Debug)]
 pub struct Input {
@@ -55,4 +56,20 @@ fn cut(input: &Input) -> Vec<Vec<u64>> {
         Some(2) => cut!(eps_quarter),
         _ => cut!(eps_1e9),
     }
+}
+
+/// What the port leaves.
+fn port(input: &Input) -> Left<u64> {
+    let (mut room, mut starts) = (super::numbers(&input.lent.points), input.lent.starts.clone());
+    let [a, b, c, d, e, f] = input.plane;
+    let plane = ramikohy::Plane { point: [a, b, c], normal: [d, e, f] };
+    let answer =
+        ramikohy::lent::section(&input.vertices, &input.indices, &plane, input.tolerance, &mut room, &mut starts);
+    let counts = answer.map(|wrote| [wrote.points, wrote.starts]);
+    super::left(counts, Lent { points: room.iter().map(|&x| bits(x)).collect(), starts, ..input.lent.clone() })
+}
+
+/// Runs the port beside the original.
+pub fn run(count: u64, seed: u64) -> Seen {
+    super::run(std::iter::empty(), make, judged, port, (count, seed))
 }

@@ -3,6 +3,7 @@
 use super::strokes::{split, table};
 use super::{Left, Lent, dirty, room};
 use crate::random::Random;
+use crate::runs::Seen;
 use std::collections::BTreeMap;
 
 #[derive(Clone, Debug)]
@@ -14,8 +15,9 @@ pub struct Input {
 
 /// A random input: few different numbers, so that many ends are equal.
 pub fn make(random: &mut Random) -> Input {
-    let kinds = 1 + random.below(6);
-    let points: Vec<u32> = (0..random.below(16)).map(|_| random.below(kinds) as u32).collect();
+    let (most, kinds) = if random.once_in(50) { (400, 60) } else { (16, 6) };
+    let kinds = 1 + random.below(kinds);
+    let points: Vec<u32> = (0..random.below(most)).map(|_| random.below(kinds) as u32).collect();
     let starts = table(random, points.len());
     let lengths = [8 * starts.len(), points.len(), starts.len()].map(|n| room(random, n));
     let lent = dirty(random, lengths, |bits| bits as u32);
@@ -38,6 +40,19 @@ fn choices<T: Clone>(list: &[T], n: usize) -> Vec<Vec<T>> {
 pub fn all_small() -> impl Iterator<Item = Input> {
     let strokes: Vec<Vec<u32>> = (0..3).flat_map(|n| choices(&[0, 1, 2], n)).collect();
     (0..5).flat_map(move |n| choices(&strokes, n)).map(|list| of_strokes(&list))
+}
+
+/// Lists at the limits of strokes and of points, and one past them.
+fn at_limits() -> impl Iterator<Item = Input> {
+    let sizes = [(196_608, 3), (196_609, 3), (2, 1_048_576), (2, 1_048_577)];
+    sizes.into_iter().map(|(strokes, points)| {
+        let (scratch, room, starts) = (vec![7; 8 * strokes], vec![5; points], vec![9; strokes]);
+        Input {
+            points: vec![1; points],
+            starts: (0..strokes).map(|i| i.min(points) as u32).collect(),
+            lent: Lent { scratch, numbers: vec![], points: room, starts },
+        }
+    })
 }
 
 /// These strokes, with just the room that they need, and something in it.
@@ -93,4 +108,19 @@ fn ends(strokes: &[Vec<u32>]) -> BTreeMap<u32, usize> {
         *bag.entry(s[s.len() - 1]).or_default() += 1;
     }
     bag
+}
+
+/// What the port leaves. What must hold of every accepted splice is asked of it too.
+fn port(input: &Input) -> Left<u32> {
+    let mut lent = input.lent.clone();
+    let Lent { scratch, points, starts, .. } = &mut lent;
+    let answer = ramikohy::lent::splice(&input.points, &input.starts, scratch, points, starts);
+    let left = super::left(answer.map(|wrote| [wrote.points, wrote.starts]), lent);
+    assert!(left.status != 0 || is_sound(input, &left), "{input:?}");
+    left
+}
+
+/// Runs the port beside the original.
+pub fn run(count: u64, seed: u64) -> Seen {
+    super::run(all_small().chain(at_limits()), make, judged, port, (count, seed))
 }

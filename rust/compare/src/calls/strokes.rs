@@ -10,7 +10,7 @@ pub fn split<P: Copy>(points: &[P], starts: &[u32], width: usize) -> Vec<Vec<P>>
 
 /// A table for `points` points: mostly good, with empty strokes, and now and then at fault.
 pub fn table(random: &mut Random, points: usize) -> Vec<u32> {
-    let strokes = random.below(7);
+    let strokes = random.below(7 + points / 3);
     let mut starts: Vec<u32> = (0..strokes).map(|_| random.below(points + 1) as u32).collect();
     starts.sort_unstable();
     if let Some(first) = starts.first_mut() {

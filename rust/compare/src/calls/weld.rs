@@ -3,6 +3,7 @@
 use super::strokes::bits;
 use super::{Left, Lent, dirty, room};
 use crate::random::Random;
+use crate::runs::Seen;
 
 #[derive(Clone, Debug)]
 pub struct Input {
@@ -51,4 +52,17 @@ pub fn judged(input: &Input) -> Left<u64> {
     }
     lent.scratch.fill(0);
     Left { status: 0, counts: vec![vertices.len(), indices.len()], lent }
+}
+
+/// What the port leaves.
+fn port(input: &Input) -> Left<u64> {
+    let (mut room, mut lent) = (super::numbers(&input.lent.points), input.lent.clone());
+    let answer = ramikohy::lent::weld(&input.corners, &mut lent.scratch, &mut room, &mut lent.starts);
+    lent.points = room.iter().map(|&x| bits(x)).collect();
+    super::left(answer.map(|wrote| [wrote.vertices, wrote.indices]), lent)
+}
+
+/// Runs the port beside the original.
+pub fn run(count: u64, seed: u64) -> Seen {
+    super::run(std::iter::empty(), make, judged, port, (count, seed))
 }
