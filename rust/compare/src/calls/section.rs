@@ -5,6 +5,7 @@ use super::strokes::bits;
 use super::{Left, Lent, dirty, room};
 use crate::random::Random;
 use crate::runs::Seen;
+use crate::torus;
 
 #[derive(Clone, Debug)]
 pub struct Input {
@@ -26,6 +27,24 @@ pub fn make(random: &mut Random) -> Input {
     let lengths = [0, room(random, 2 * faces) * 3, room(random, faces)];
     let lent = dirty(random, lengths, |word| bits(f64::from_bits(word)));
     Input { vertices, indices, plane, tolerance, lent }
+}
+
+/// The torus of the benchmarks, with the most faces that a call takes, and with one more, for each tolerance.
+fn always() -> impl Iterator<Item = Input> {
+    let torus = torus::wavy(256, 128);
+    let over = [&torus.faces[..], &torus.faces[..1]].concat();
+    let meshes = [torus.faces, over].map(|faces| (torus.vertices.concat(), faces.concat()));
+    super::adaptive::TOLERANCES.into_iter().flat_map(move |tolerance| {
+        meshes.clone().map(|(vertices, indices)| {
+            let lent = Lent {
+                scratch: vec![],
+                numbers: vec![],
+                points: vec![5; 2 * indices.len()],
+                starts: vec![9; indices.len() / 3],
+            };
+            Input { vertices, indices, plane: [0.1, 0.2, 0.05, 0.3, 0.9, 0.2], tolerance, lent }
+        })
+    })
 }
 
 /// What the rules and the original say that the call leaves.
@@ -71,5 +90,5 @@ fn port(input: &Input) -> Left<u64> {
 
 /// Runs the port beside the original.
 pub fn run(count: u64, seed: u64) -> Seen {
-    super::run(std::iter::empty(), make, judged, port, (count, seed))
+    super::run(always(), make, judged, port, (count, seed))
 }

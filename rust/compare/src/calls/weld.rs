@@ -4,6 +4,7 @@ use super::strokes::bits;
 use super::{Left, Lent, dirty, room};
 use crate::random::Random;
 use crate::runs::Seen;
+use crate::torus;
 
 #[derive(Clone, Debug)]
 pub struct Input {
@@ -31,6 +32,25 @@ pub fn make(random: &mut Random) -> Input {
     let lengths = [12 * faces, 3 * faces, 3 * faces].map(|n| room(random, n));
     let lent = dirty(random, [lengths[0], lengths[1] * 3, lengths[2]], |word| bits(f64::from_bits(word)));
     Input { corners, lent }
+}
+
+/// The torus of the benchmarks, with the most faces that a call takes, and with one more; and a small one jittered by less than
+/// a cell.
+fn always() -> impl Iterator<Item = Input> {
+    let torus = torus::wavy(256, 128).corners();
+    let over = [&torus[..], &torus[..3]].concat();
+    let mut random = Random::new(9);
+    let mut jittered = torus::wavy(24, 12).corners();
+    jittered.as_flattened_mut().iter_mut().for_each(|x| *x += (random.unit() - 0.5) * 1.5e-6);
+    [torus, over, jittered].into_iter().map(|corners| Input {
+        lent: Lent {
+            scratch: vec![7; 4 * corners.len()],
+            numbers: vec![],
+            points: vec![5; 3 * corners.len()],
+            starts: vec![9; corners.len()],
+        },
+        corners: corners.concat(),
+    })
 }
 
 /// What the rules and the original say that the call leaves.
@@ -64,5 +84,5 @@ fn port(input: &Input) -> Left<u64> {
 
 /// Runs the port beside the original.
 pub fn run(count: u64, seed: u64) -> Seen {
-    super::run(std::iter::empty(), make, judged, port, (count, seed))
+    super::run(always(), make, judged, port, (count, seed))
 }
