@@ -1,16 +1,15 @@
 -- What an order reads: the entries of the code, and the definition's chains.
 -- Assumes nothing.
-use mathlib.Core.Path.{_≡_, refl, sym, ap, _∙_, subst}
-use mathlib.Core.Bool.{Bool, true, false, cond}
+use mathlib.Core.Path.{_≡_, refl, sym, ap, _∙_}
+use mathlib.Core.Bool.{true}
 use mathlib.Core.Logic.{_≢_}
-use mathlib.Core.List.{List, [], _∷_, _++_, reverse, reverse-append, append-assoc, append-nil, map}
+use mathlib.Core.List.{List, [], _∷_, _++_, reverse, reverse-append, map}
 use Prim.Native.Nat.{ℕ, zero, suc, _+_, _-_, _*_, _/_, _%_, _≤_, _<_}
 use native.Mathlib.Omega.{arith}
 use native.Mathlib.Numerals.{add-one}
-use native.Mathlib.Nat.{add-zero}
 use lib.ListN.{length, getD, drop, take, set, length-append, length-reverse, drop-of-length-le, List·getD-eq-default, length-map, List·getD-map}
 use lib.Seq.{drop-cons, length-take-le, length-front, take-at, ext-getD}
-use mathlib.Core.Logic.{inl, inr}
+use mathlib.Core.Logic.{inr}
 use Rattle.order.specs.Regions.{region, put, Off}
 use Rattle.path.specs.Strokes.{goodStarts}
 use Rattle.path_splice.specs.Text.{strokesIn, part, mark, textOf, marksOf, ReadOut, Filled}

@@ -1,17 +1,17 @@
 -- Laws of start tables, of the strokes that they name, and of copying.
 -- Assumes nothing.
-use mathlib.Core.Path.{_≡_, refl, sym, ap, _∙_, subst}
-use mathlib.Core.Bool.{Bool, true, false, _&&_, true≢false}
+use mathlib.Core.Path.{_≡_, refl, sym, ap, _∙_}
+use mathlib.Core.Bool.{Bool, true, false, _&&_}
 use mathlib.Core.Logic.{_≢_}
 use mathlib.Core.List.{List, [], _∷_, _++_, reverse, reverse-append}
-use Prim.Native.Nat.{ℕ, zero, suc, _+_, _-_, _*_, _/_, _%_, _≤_, _<_}
+use Prim.Native.Nat.{ℕ, zero, suc, _+_, _-_, _/_, _%_, _≤_, _<_}
 use native.Mathlib.Omega.{arith}
 use native.Mathlib.Numerals.{add-one}
-use lib.ListN.{length, getD, drop, take, set, length-set, length-drop, drop-of-length-le}
-use lib.Seq.{drop-cons, sets, take-suc, getD-drop, getD-set-same, getD-set-other}
+use lib.ListN.{length, getD, drop, set, length-drop}
+use lib.Seq.{drop-cons, take-suc, getD-drop, getD-set-same, getD-set-other}
 use lib.Dec.{leb, eqb}
 use native.Mathlib.Decide.{ℕ-discrete}
-use borrow.Author.Tests.{le-leb, lt-leb, eq-eqb, ne-eqb, leb-true, eqb-true}
+use borrow.Author.Tests.{leb-true, eqb-true}
 use Rattle.order.specs.Regions.{region, put}
 use Rattle.path.specs.Strokes.{goodFrom, goodStarts, strokesOf, gather, numberAt}
 use Rattle.order.proofs.Tests.{neqb}
