@@ -5,8 +5,8 @@ use mathlib.Core.Logic.{_⊎_, inl, inr, _≢_, ⊎-elim}
 use mathlib.Core.List.{List, [], _∷_, _++_, append-assoc}
 use Prim.Native.Nat.{ℕ, zero, suc, _+_, _-_, _<_, _≤_}
 use native.Mathlib.Omega.{arith}
-use lib.ListN.{length, getD, set, take, drop, replicate, length-replicate, length-set, length-take, length-drop, length-append, List·getD-eq-default}
-use lib.Seq.{sets, length-sets, sets-eq, getD-set-same, getD-set-other, getD-take, getD-drop, ext-getD, length-take-le, drop-drop}
+use lib.ListN.{length, getD, set, take, drop, replicate, length-replicate, length-set, length-take, length-drop, List·getD-eq-default}
+use lib.Seq.{length-sets, sets-eq, getD-set-same, getD-set-other, getD-take, getD-drop, ext-getD, length-take-le, drop-drop}
 use Rattle.order.specs.Regions.{region, put, Off, Into, Into2}
 use Rattle.order.proofs.Tests.{le-or}
 

@@ -24,16 +24,9 @@ pub nonzero-of : (n : ℕ) → isZero n ≡ false → n ≢ 0
 nonzero-of zero h = absurd (clash refl h)
 nonzero-of (suc n) h = λ e. omega arith
 
-pub suc-of : (n : ℕ) → n ≢ 0 → (k : ℕ) × (n ≡ suc k)
-suc-of zero h = absurd (h refl)
-suc-of (suc n) h = (n, refl)
-
 -- ends
 pub opp-stroke : (e : ℕ) → opposite e / 2 ≡ e / 2
 opp-stroke e = omega arith
-
-pub opp-opp : (e : ℕ) → opposite (opposite e) ≡ e
-opp-opp e = omega arith
 
 pub opp-ne : (e : ℕ) → opposite e ≢ e
 opp-ne e = omega arith

@@ -1,13 +1,11 @@
 -- What a chain reads as: its pairs are the pairs of its strokes, its ends are the entry's and the exit's.
 -- Assumes nothing.
 use mathlib.Core.Path.{_≡_, refl, sym, ap, _∙_, subst}
-use mathlib.Core.Bool.{Bool, true, false, cond}
-use mathlib.Core.Logic.{_⊎_, inl, inr, _≢_}
-use mathlib.Core.List.{List, [], _∷_, _++_, map, reverse, reverseAux, append-assoc, append-nil}
-use Prim.Native.Nat.{ℕ, zero, suc, _+_, _-_, _*_, _/_, _%_, _<_, _≤_}
+use mathlib.Core.Logic.{_≢_}
+use mathlib.Core.List.{List, [], _∷_, _++_, reverseAux, append-nil}
+use Prim.Native.Nat.{ℕ, zero, suc, _+_, _-_, _/_, _%_, _≤_}
 use native.Mathlib.Omega.{arith}
-use native.Mathlib.Decide.{ℕ-discrete}
-use lib.ListN.{length, getD, set, drop, length-append, length-reverse}
+use lib.ListN.{length, getD, drop, length-append, length-reverse}
 use Rattle.path_ends.specs.Splice.{opposite, lastOf, firstOf, present, endOf, turned, valueAt, readFrom, added, readChain}
 use Rattle.path_ends.specs.Demand.{sum, along}
 use Rattle.path_ends.proofs.Ends.{opp-stroke, opp-side}

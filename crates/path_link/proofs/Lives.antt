@@ -1,6 +1,6 @@
 -- The ends of the strokes that are there: as a loop writes them, and as they are linked.
 -- Assumes nothing.
-use mathlib.Core.Path.{_≡_, refl, sym, ap, _∙_, subst}
+use mathlib.Core.Path.{_≡_, refl, sym, ap, _∙_}
 use mathlib.Core.Bool.{Bool, true, false, _&&_, not, cond}
 use mathlib.Core.Logic.{_⊎_, inl, inr, _≢_, ⊎-elim}
 use mathlib.Core.List.{List, [], _∷_, _++_, append-nil}
@@ -10,7 +10,7 @@ use native.Mathlib.Numerals.{add-one}
 use native.Mathlib.Decide.{ℕ-discrete}
 use lib.Dec.{eqb}
 use lib.ListN.{length, getD, set, take, drop, replicate, length-set, length-replicate, take-append-drop, List·getD-eq-default}
-use lib.Seq.{take-suc-set, append-snoc, length-take-le, drop-set-lt, drop-drop, take-at}
+use lib.Seq.{take-suc-set, append-snoc, length-take-le, drop-set-lt, drop-drop}
 use Rattle.path_ends.specs.Splice.{isZero, links}
 use Rattle.path_link.specs.Ends.{fit, fitLive, liveFrom, Lived}
 use Rattle.order.specs.Order.{order, wordKey}
@@ -18,7 +18,7 @@ use Rattle.path_link.specs.Runs.{Ranked, Linked}
 use Rattle.order.proofs.Tests.{both, both-left, both-right, not-true, not-false, eqb-true, neqb, le-or}
 use Rattle.path_ends.proofs.Ends.{zero-of, is-zero, not-zero, nonzero-of}
 use Rattle.path_link.proofs.Picking.{fits}
-use Rattle.order.proofs.Sorted.{In, in-at, at-in, Rising, in-order, order-in, order-length, order-sorted, sorted-at}
+use Rattle.order.proofs.Sorted.{In, in-at, at-in, Rising, in-order, order-in, order-sorted, sorted-at}
 use Rattle.path_link.proofs.Matching.{right-is}
 use Rattle.path_link.proofs.Mirrors.{Joins, Laid, mirrors-right}
 
@@ -179,29 +179,3 @@ module _ (todo vs : List ℕ) (m : ℕ) (two : m ≡ 2 * length todo) where
     where
       alive : (f g : ℕ) → f < m → getD ls f 0 ≡ suc g → Live f
       alive f g h y = elim (ℕ-discrete (getD todo (f / 2) 0) 0) [ yes q ↦ absurd (omega (arith, nought m f, L .rest f (λ x l e. in-live todo 0 m (getD placed x 0) (place-in x l) .2 (ap (λ (v : ℕ). getD todo (v / 2) 0) e ∙ q)))) | no n ↦ alive-of f n ]
-
--- the ends as the code has them
-module _ (todo vs a a′ : List ℕ) (r : ℕ) (W : Lived todo a a′ r) (two : length a ≡ 2 * length todo) where
-  pub front-a : take r a′ ≡ liveFrom todo 0 (length a)
-  front-a = ap (take r) (W .first) ∙ take-at (liveFrom todo 0 (length a)) (drop r a) r (sym (W .count))
-
-  pub size-a : r ≡ length (take r a′)
-  size-a = W .count ∙ ap length (sym front-a)
-
-  module _ (s : List ℕ) (o : s ≡ order (wordKey vs) (take r a′)) where
-    long : length s ≡ r
-    long = ap length o ∙ order-length (wordKey vs) (take r a′) ∙ sym size-a
-
-    pub size-s : r ≡ length (take r (s ++ drop r a′))
-    size-s = sym (ap length (take-at s (drop r a′) r long) ∙ long)
-
-    placed-is : take r (s ++ drop r a′) ≡ placed todo vs (length a) two
-    placed-is = take-at s (drop r a′) r long ∙ o ∙ ap (order (wordKey vs)) front-a
-
-    pub ready-ends : (n : ℕ) → n ≡ length a → Ranked vs (take r (s ++ drop r a′)) n
-    ready-ends n e = rw (placed-is, e) (ranked todo vs (length a) two)
-
-    pub done-ends : (n : ℕ) (ls₀ ls : List ℕ) → n ≡ length a → ls₀ ≡ replicate n 0 → Linked vs (take r (s ++ drop r a′)) ls₀ ls (length (take r (s ++ drop r a′))) → ls ≡ links (fitLive todo vs) (length a)
-    done-ends n ls₀ ls e z L =
-        ends-linked todo vs (length a) two ls
-        (subst (λ (t : List ℕ). Linked vs t (replicate (length a) 0) ls (length t)) placed-is (subst (λ (t : List ℕ). Linked vs (take r (s ++ drop r a′)) t ls (length (take r (s ++ drop r a′)))) (z ∙ ap (λ (k : ℕ). replicate k 0) e) L))

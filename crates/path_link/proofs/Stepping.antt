@@ -1,13 +1,12 @@
 -- For code that is not the definition step by step: any search for the highest end is `pick`, and a walk with no fuel is `run` with enough.
 -- Assumes nothing.
 use mathlib.Core.Path.{_≡_, refl, sym, ap, _∙_}
-use mathlib.Core.Bool.{Bool, true, false, _&&_, cond}
+use mathlib.Core.Bool.{Bool, true, false, cond}
 use mathlib.Core.Logic.{_≢_}
 use mathlib.Core.List.{List, [], _∷_}
-use Prim.Native.Nat.{ℕ, zero, suc, _+_, _-_, _/_, _<_, _≤_}
+use Prim.Native.Nat.{ℕ, zero, suc, _-_, _/_, _<_, _≤_}
 use native.Mathlib.Omega.{arith}
 use native.Mathlib.Decide.{ℕ-discrete}
-use native.Mathlib.Nat.{zero-add}
 use lib.ListN.{getD, set}
 use Rattle.path_ends.specs.Splice.{isZero, opposite, pick, onward, after, run}
 use Rattle.path_ends.proofs.Ends.{is-zero, not-zero, nonzero-of}

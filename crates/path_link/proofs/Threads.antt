@@ -6,7 +6,7 @@ use mathlib.Core.Logic.{_⊎_, inl, inr, _≢_, ⊎-elim}
 use mathlib.Core.List.{List, [], _∷_, _++_, append-assoc, append-nil}
 use Prim.Native.Nat.{ℕ, zero, suc, _+_, _-_, _*_, _/_, _<_, _≤_}
 use native.Mathlib.Omega.{arith}
-use lib.ListN.{length, getD, set, take, drop, replicate, length-set, length-replicate, length-append, List·getD-eq-default}
+use lib.ListN.{length, getD, set, take, drop, replicate, length-replicate, length-append, List·getD-eq-default}
 use lib.Seq.{take-take, take-at}
 use Rattle.order.specs.Regions.{region, put, Off, Into2}
 use Rattle.path_link.specs.Layout.{LinksIn}
@@ -14,7 +14,7 @@ use Rattle.path_ends.specs.Splice.{isZero, opposite, onward, run, from, pass, a
 use Rattle.path_link.specs.Ends.{fit, fitLive}
 use Rattle.path_ends.specs.Totals.{total}
 use Rattle.path_link.specs.Walk.{linkIn, Within, inked, inkAll, RunIs, Drew, entry, begun, Ready, orderIn, Woven, Threaded, threaded, threadIn}
-use lib.Dec.{eqb, leb}
+use lib.Dec.{eqb}
 use borrow.Author.Tests.{le-leb, lt-leb}
 use Rattle.path_ends.proofs.Ends.{is-zero, not-zero}
 use Rattle.order.proofs.Tests.{both, both-left, both-right, eqb-true, neqb, not-true, le-or}

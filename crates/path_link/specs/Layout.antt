@@ -2,10 +2,9 @@
 -- Assumes nothing.
 use mathlib.Core.Path.{_≡_}
 use mathlib.Core.List.{List}
-use Prim.Native.Nat.{ℕ, _+_, _-_, _*_, _<_, _≤_}
+use Prim.Native.Nat.{ℕ, _+_, _*_, _≤_}
 use lib.ListN.{length}
 use Rattle.order.specs.Regions.{region}
-use Rattle.order.specs.Order.{order}
 use Rattle.path_ends.specs.Splice.{links}
 use Rattle.path_link.specs.Ends.{fitLive}
 

@@ -1,18 +1,18 @@
 -- Strokes of two points each: their table, the values of their ends, and what is left of scratch.
 -- Assumes nothing.
-use mathlib.Core.Path.{_≡_, refl, sym, ap, _∙_, subst}
-use mathlib.Core.Bool.{Bool, true, false, _&&_, cond}
-use mathlib.Core.Logic.{_⊎_, inl, inr, _≢_, ⊎-elim}
+use mathlib.Core.Path.{_≡_, refl, sym, ap, _∙_}
+use mathlib.Core.Bool.{true, false, _&&_}
+use mathlib.Core.Logic.{inl, inr}
 use mathlib.Core.List.{List, [], _∷_, _++_, map}
 use Prim.Native.Nat.{ℕ, zero, suc, _+_, _-_, _*_, _/_, _%_, _≤_, _<_}
 use native.Mathlib.Omega.{arith}
 use native.Mathlib.Numerals.{add-one}
-use lib.ListN.{length, getD, set, take, drop, replicate, length-replicate, getD-replicate, length-drop, length-map, List·getD-map}
+use lib.ListN.{length, getD, set, take, drop, replicate, length-replicate, length-drop, length-map, List·getD-map}
 use lib.Seq.{drop-cons, ext-getD, length-take-le, take-all}
 use lib.Dec.{leb, eqb}
 use borrow.Author.Tests.{le-leb, leb-true, eq-eqb}
-use Rattle.order.specs.Regions.{region, put, Off, Into2}
-use Rattle.order.proofs.Parts.{length-put, get-off, length-region, get-region, region-off, into2-none, into2-set, into2-size, into2-region, into2-first, into2-second}
+use Rattle.order.specs.Regions.{region, Off, Into2}
+use Rattle.order.proofs.Parts.{into2-none, into2-set, into2-size, into2-region, into2-first, into2-second}
 use Rattle.path.specs.Strokes.{goodFrom, goodStarts, gather, strokesOf, numberAt}
 use Rattle.path_ends.specs.Splice.{firstOf, lastOf, endOf, valueAt, present}
 use Rattle.path_splice.proofs.Tables.{fill-turn}

@@ -1,23 +1,21 @@
 -- What an order reads: the entries of the code, and the definition's chains.
 -- Assumes nothing.
-use mathlib.Core.Path.{_≡_, refl, sym, ap, _∙_, subst}
-use mathlib.Core.Bool.{Bool, true, false, cond}
+use mathlib.Core.Path.{_≡_, refl, sym, ap, _∙_}
 use mathlib.Core.Logic.{_≢_}
-use mathlib.Core.List.{List, [], _∷_, _++_, reverse, reverse-append, append-assoc, append-nil, map}
+use mathlib.Core.List.{List, [], _∷_, _++_, reverse, reverse-append, map}
 use Prim.Native.Nat.{ℕ, zero, suc, _+_, _-_, _*_, _/_, _%_, _≤_, _<_}
 use native.Mathlib.Omega.{arith}
+use native.Mathlib.Decide.{ℕ-discrete}
 use native.Mathlib.Numerals.{add-one}
-use native.Mathlib.Nat.{add-zero}
-use lib.ListN.{length, getD, drop, take, set, length-append, length-reverse, drop-of-length-le, List·getD-eq-default, length-map, List·getD-map}
+use lib.ListN.{length, getD, drop, take, set, length-append, length-reverse, drop-of-length-le, length-map, List·getD-map}
 use lib.Seq.{drop-cons, length-take-le, length-front, take-at, ext-getD}
-use mathlib.Core.Logic.{inl, inr}
+use mathlib.Core.Logic.{inr}
 use Rattle.order.specs.Regions.{region, put, Off}
-use Rattle.path.specs.Strokes.{goodStarts}
-use Rattle.path_splice.specs.Text.{strokesIn, part, mark, textOf, marksOf, ReadOut, Filled}
+use Rattle.path_splice.specs.Text.{strokesIn, Spans, part, mark, textOf, marksOf, ReadOut, Filled}
 use Rattle.path_ends.specs.Splice.{turned, readFrom, valueAt, present}
 use Rattle.path_ends.proofs.Ends.{is-zero, not-zero}
 use Rattle.order.proofs.Parts.{put-append, length-region, put-lent, region-off, region-put}
-use Rattle.path_splice.proofs.Tables.{stroke-is, table-le, region-first, region-last}
+use Rattle.path_splice.proofs.Tables.{region-first, region-last}
 
 nothing : (k j : ℕ) → _≡_ {A = List ℕ} (drop k (turned j [])) []
 unfolding turned
@@ -26,25 +24,20 @@ nothing zero (suc j) = refl
 nothing (suc k) zero = refl
 nothing (suc k) (suc j) = refl
 
--- an entry past the table
-pub part-none : (ss : List (List ℕ)) (x : ℕ) → length ss ≤ x / 2 / 2 → part ss x ≡ []
-unfolding part readFrom
-part-none ss x h = rw (List·getD-eq-default ss [] h) (nothing (1 - x % 2) (x / 2 % 2))
+sub-both : (a b k : ℕ) → b - (a + k) ≡ b - a - k
+sub-both a b k = omega arith
 
--- an entry of the table
-module _ (ps ss : List ℕ) (x : ℕ) (g : goodStarts (length ps) ss ≡ true) (i : ℕ) (on : i ≡ x / 2 / 2) (h : i < length ss) (b : ℕ) (e : b ≡ getD ss (i + 1) (length ps)) where
-  abbrev a : ℕ
-  a = getD ss i 0
+sub-turn : (a b k : ℕ) → b - k - a ≡ b - a - k
+sub-turn a b k = omega arith
 
+-- an entry of a stroke
+module _ (ps ss : List ℕ) (x i a b : ℕ) (on : i ≡ x / 2 / 2) (S : Spans ps ss i a b) where
   abbrev All : List (List ℕ)
   All = strokesIn ps ss
 
-  le : (a ≤ b) × (b ≤ length ps)
-  le = table-le ps ss i g h b e
-
   part-is : part All x ≡ drop (1 - x % 2) (turned (x / 2 % 2) (region ps a (b - a)))
   unfolding part readFrom
-  part-is = rw (← on, stroke-is ps ss i g h b e)
+  part-is = rw (← on, S .is)
 
   pub part-empty : a ≡ b → part All x ≡ []
   part-empty q =
@@ -57,7 +50,7 @@ module _ (ps ss : List ℕ) (x : ℕ) (g : goodStarts (length ps) ss ≡ true) (
     where
       go : (k : ℕ) → k ≤ 1 → drop k (region ps a (b - a)) ≡ region ps (a + k) (b - (a + k))
       go zero l = let p : a + 0 ≡ a = omega arith in rw p
-      go (suc zero) l = ap (drop 1) (region-first ps a b (omega (arith, le)) (le .1))
+      go (suc zero) l = ap (drop 1) (region-first ps a b (omega (arith, S .low)) (S .high))
       go (suc (suc k)) l = absurd (omega arith)
 
   pub part-backward : (k : ℕ) → k ≡ 1 - x % 2 → a ≢ b → x / 2 % 2 ≢ 0 → part All x ≡ reverse (region ps a (b - k - a))
@@ -68,14 +61,15 @@ module _ (ps ss : List ℕ) (x : ℕ) (g : goodStarts (length ps) ss ≡ true) (
     where
       go : (k : ℕ) → k ≤ 1 → drop k (reverse (region ps a (b - a))) ≡ reverse (region ps a (b - k - a))
       go zero l = let p : b - 0 ≡ b = omega arith in rw p
-      go (suc zero) l = ap (λ (r : List ℕ). drop 1 (reverse r)) (region-last ps a b (omega (arith, le)) (le .1)) ∙ ap (drop 1) (reverse-append (region ps a (b - 1 - a)) (getD ps (b - 1) 0 ∷ []))
+      go (suc zero) l = ap (λ (r : List ℕ). drop 1 (reverse r)) (region-last ps a b (omega (arith, S .low)) (S .high)) ∙ ap (drop 1) (reverse-append (region ps a (b - 1 - a)) (getD ps (b - 1) 0 ∷ []))
       go (suc (suc k)) l = absurd (omega arith)
 
-  pub size-forward : (k : ℕ) → k ≡ 1 - x % 2 → a ≢ b → x / 2 % 2 ≡ 0 → length (part All x) ≡ b - (a + k)
-  size-forward k q n z = ap length (part-forward k q n z) ∙ length-region ps (a + k) (b - (a + k)) (omega (arith, le))
-
-  pub size-backward : (k : ℕ) → k ≡ 1 - x % 2 → a ≢ b → x / 2 % 2 ≢ 0 → length (part All x) ≡ b - k - a
-  size-backward k q n z = ap length (part-backward k q n z) ∙ length-reverse (region ps a (b - k - a)) ∙ length-region ps a (b - k - a) (omega (arith, le))
+  pub part-size : (k : ℕ) → k ≡ 1 - x % 2 → a ≢ b → length (part All x) ≡ b - a - k
+  part-size k q n =
+      elim (ℕ-discrete (x / 2 % 2) 0) [
+        | yes z ↦ ap length (part-forward k q n z) ∙ length-region ps (a + k) (b - (a + k)) (omega (arith, S .low, S .high)) ∙ sub-both a b k
+        | no z ↦ ap length (part-backward k q n z) ∙ length-reverse (region ps a (b - k - a)) ∙ length-region ps a (b - k - a) (omega (arith, S .low, S .high)) ∙ sub-turn a b k
+      ]
 
 -- marks
 pub mark-none : (p x : ℕ) → x % 2 ≡ 0 → mark p x ≡ []

@@ -1,23 +1,23 @@
 -- Laws of start tables, of the strokes that they name, and of copying.
 -- Assumes nothing.
-use mathlib.Core.Path.{_≡_, refl, sym, ap, _∙_, subst}
-use mathlib.Core.Bool.{Bool, true, false, _&&_, true≢false}
+use mathlib.Core.Path.{_≡_, refl, sym, ap, _∙_}
+use mathlib.Core.Bool.{Bool, true, false, _&&_}
 use mathlib.Core.Logic.{_≢_}
 use mathlib.Core.List.{List, [], _∷_, _++_, reverse, reverse-append}
-use Prim.Native.Nat.{ℕ, zero, suc, _+_, _-_, _*_, _/_, _%_, _≤_, _<_}
+use Prim.Native.Nat.{ℕ, zero, suc, _+_, _-_, _/_, _%_, _≤_, _<_}
 use native.Mathlib.Omega.{arith}
 use native.Mathlib.Numerals.{add-one}
-use lib.ListN.{length, getD, drop, take, set, length-set, length-drop, drop-of-length-le}
-use lib.Seq.{drop-cons, sets, take-suc, getD-drop, getD-set-same, getD-set-other}
+use lib.ListN.{length, getD, drop, set, length-drop, List·getD-eq-default}
+use lib.Seq.{drop-cons, take-suc, getD-drop, getD-set-same, getD-set-other}
 use lib.Dec.{leb, eqb}
 use native.Mathlib.Decide.{ℕ-discrete}
-use borrow.Author.Tests.{le-leb, lt-leb, eq-eqb, ne-eqb, leb-true, eqb-true}
+use borrow.Author.Tests.{leb-true, eqb-true}
 use Rattle.order.specs.Regions.{region, put}
 use Rattle.path.specs.Strokes.{goodFrom, goodStarts, strokesOf, gather, numberAt}
 use Rattle.order.proofs.Tests.{neqb}
 use Rattle.path.proofs.Starts.{getD-any}
 use Rattle.path.proofs.Tests.{both}
-use Rattle.path_splice.specs.Text.{strokesIn}
+use Rattle.path_splice.specs.Text.{strokesIn, Spans}
 use Rattle.path_ends.specs.Splice.{firstOf, lastOf, endOf, valueAt, present}
 use Rattle.order.proofs.Parts.{length-region, get-region}
 
@@ -94,28 +94,32 @@ side zero [] h = refl
 side (suc k) [] h = refl
 side k (x ∷ l) h = absurd (omega arith)
 
-module _ (ps ss : List ℕ) (i : ℕ) (g : goodStarts (length ps) ss ≡ true) (h : i < length ss) (b : ℕ) (e : b ≡ getD ss (i + 1) (length ps)) where
-  abbrev a : ℕ
-  a = getD ss i 0
+pub spans : (ps ss : List ℕ) (i : ℕ) → goodStarts (length ps) ss ≡ true → i < length ss → (b : ℕ) → b ≡ getD ss (i + 1) (length ps) → Spans ps ss i (getD ss i 0) b
+spans ps ss i g h b e =
+    let a = getD ss i 0 in
+    let q = good-at (length ps) ss i g h in
+    record {
+      low = omega (arith, q .0);
+      high = omega (arith, q .1);
+      is = stroke-at (numberAt ps) (length ps) ss i h ∙ ap (λ (k : ℕ). gather (numberAt ps) a (k - a)) (sym e) ∙ gather-region ps a (b - a) (omega (arith, q .0, q .1));
+    }
 
+pub spans-none : (ps ss : List ℕ) (i : ℕ) → length ss ≤ i → Spans ps ss i 0 0
+spans-none ps ss i h = record { low = omega arith; high = omega arith; is = List·getD-eq-default (strokesIn ps ss) [] (omega (arith, strokes-length (numberAt ps) (length ps) ss)) }
+
+module _ (ps ss : List ℕ) (i a b : ℕ) (S : Spans ps ss i a b) where
   abbrev All : List (List ℕ)
   All = strokesIn ps ss
 
-  pub table-le : (a ≤ b) × (b ≤ length ps)
-  table-le = let q = good-at (length ps) ss i g h in omega (arith, q .0, q .1)
-
-  pub stroke-is : getD All i [] ≡ region ps a (b - a)
-  stroke-is = stroke-at (numberAt ps) (length ps) ss i h ∙ ap (λ (k : ℕ). gather (numberAt ps) a (k - a)) (sym e) ∙ gather-region ps a (b - a) (omega (arith, table-le))
-
   stroke-length : length (getD All i []) ≡ b - a
-  stroke-length = ap length stroke-is ∙ length-region ps a (b - a) (omega (arith, table-le))
+  stroke-length = ap length (S .is) ∙ length-region ps a (b - a) (omega (arith, S .low, S .high))
 
   pub there-none : a ≡ b → 0 ≡ present (getD All i [])
   unfolding present
   there-none q = sym (ap present (none-of (getD All i []) (omega (arith, stroke-length))))
 
   pub there-some : a ≢ b → 1 ≡ present (getD All i [])
-  there-some q = sym (present-is (getD All i []) (λ z. q (omega (arith, stroke-length, table-le))))
+  there-some q = sym (present-is (getD All i []) (λ z. q (omega (arith, stroke-length, S .low))))
 
   module _ (w : ℕ) (o : w / 2 ≡ i) where
     value-is : valueAt 0 All w ≡ endOf 0 (w % 2) (getD All i [])
@@ -129,16 +133,16 @@ module _ (ps ss : List ℕ) (i : ℕ) (g : goodStarts (length ps) ss ≡ true) (
     unfolding endOf
     value-first q z =
         let p : a + 0 ≡ a = omega arith in
-        sym (value-is ∙ ap (λ (k : ℕ). endOf 0 k (getD All i [])) z ∙ first-is (getD All i []) ∙ ap (λ (l : List ℕ). getD l 0 0) stroke-is ∙ get-region ps a (b - a) 0 (omega (arith, table-le)) ∙ ap (λ (k : ℕ). getD ps k 0) p)
+        sym (value-is ∙ ap (λ (k : ℕ). endOf 0 k (getD All i [])) z ∙ first-is (getD All i []) ∙ ap (λ (l : List ℕ). getD l 0 0) (S .is) ∙ get-region ps a (b - a) 0 (omega (arith, S .low)) ∙ ap (λ (k : ℕ). getD ps k 0) p)
 
     pub value-last : a ≢ b → w % 2 ≢ 0 → getD ps (b - 1) 0 ≡ valueAt 0 All w
     unfolding endOf
     value-last q z =
         let u : w % 2 ≡ 1 = omega arith in
-        let t = table-le in
+        let t = S .low in
         let m = stroke-length in
         let p : a + (b - a - 1) ≡ b - 1 = omega arith in
-        sym (value-is ∙ ap (λ (k : ℕ). endOf 0 k (getD All i [])) u ∙ last-is 0 (getD All i []) (b - a - 1) (omega arith) ∙ ap (λ (l : List ℕ). getD l (b - a - 1) 0) stroke-is ∙ get-region ps a (b - a) (b - a - 1) (omega arith) ∙ ap (λ (k : ℕ). getD ps k 0) p)
+        sym (value-is ∙ ap (λ (k : ℕ). endOf 0 k (getD All i [])) u ∙ last-is 0 (getD All i []) (b - a - 1) (omega arith) ∙ ap (λ (l : List ℕ). getD l (b - a - 1) 0) (S .is) ∙ get-region ps a (b - a) (b - a - 1) (omega arith) ∙ ap (λ (k : ℕ). getD ps k 0) p)
 
 -- the side of an end, as its test says
 pub last-side : (w : ℕ) (r : Bool) → r ≡ eqb (w % 2) 1 → r ≡ true → w % 2 ≢ 0

@@ -3,7 +3,7 @@
 use mathlib.Core.Path.{_≡_}
 use mathlib.Core.Bool.{cond}
 use mathlib.Core.List.{List, [], _∷_, _++_, map}
-use Prim.Native.Nat.{ℕ, _+_, _-_, _*_, _/_, _%_, _<_}
+use Prim.Native.Nat.{ℕ, _+_, _-_, _*_, _/_, _%_, _<_, _≤_}
 use lib.ListN.{length, getD, drop}
 use Rattle.order.specs.Regions.{region, put}
 use Rattle.path.specs.Strokes.{strokesOf, numberAt}
@@ -13,6 +13,12 @@ use Rattle.path_ends.specs.Splice.{isZero, readFrom, valueAt, present}
 -- strokes of vertex numbers
 abbrev pub strokesIn : List ℕ → List ℕ → List (List ℕ)
 strokesIn ps ss = strokesOf (numberAt ps) (length ps) ss
+
+-- stroke i lies from place a up to place b
+pub record Spans (ps ss : List ℕ) (i a b : ℕ) : Type 0 where
+  pub low : a ≤ b
+  pub high : b ≤ length ps
+  pub is : getD (strokesIn ps ss) i [] ≡ region ps a (b - a)
 
 -- what an entry x of the order writes: a stroke from its end x / 2, whole where x is odd, and else without its first point
 unfoldable pub part : List (List ℕ) → ℕ → List ℕ

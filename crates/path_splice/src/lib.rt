@@ -13,13 +13,13 @@ ghost use mathlib.Core.Path.{_≡_};
 ghost use mathlib.Core.Bool.{true};
 ghost use mathlib.Core.List.{[], _∷_, reverse};
 ghost use Prim.Native.Nat.{ℕ, _+_, _-_, _*_, _/_, _<_, _≤_};
-ghost use lib.ListN.{length, getD, take, replicate};
+ghost use lib.ListN.{length, getD};
 ghost use lib.Dec.{eqb};
 ghost use Rattle.refusal.specs.Said.{accepted};
 ghost use Rattle.order.specs.Regions.{region, put, Into2};
 ghost use Rattle.path.specs.Strokes.{goodStarts};
 ghost use Rattle.path_ends.specs.Splice.{valueAt, present, splice as spliceOf};
-ghost use Rattle.path_splice.specs.Text.{strokesIn, part, mark, textOf, marksOf, ReadOut, Filled, LaidOut};
+ghost use Rattle.path_splice.specs.Text.{strokesIn, Spans, part, mark, textOf, marksOf, ReadOut, Filled, LaidOut};
 ghost use Rattle.path_splice.specs.Pairs.{Paired, Drawn, fits as fitsOf, pairsLeft};
 ghost use Rattle.path_splice.specs.Lent.{verdictOf, said, left, spliceLeft};
 
@@ -29,14 +29,34 @@ pub enum Spliced {
     Refused(Refusal),
 }
 
+// Where the points of a stroke lie: from a place up to another.
+struct Span {
+    from: usize,
+    to: usize,
+}
+
+// Where the points of stroke i lie; nowhere past the table.
+fn span_of(points: &[u32], starts: &[u32], i: usize) -> Span
+    requires { ⌜ goodStarts (length (now points)) (now starts) ≡ true ⌝ }
+    ensures { λ r. ⌜ Spans (now (points .entry)) (now (starts .entry)) i (r .from) (r .to) ⌝ }
+{
+    if starts.len() <= i {
+        return Span { from: 0, to: 0 };
+    }
+    Span {
+        from: starts[i] as usize,
+        to: end_of(starts, i, points.len()),
+    }
+}
+
 // The value of end e, 0 of an empty stroke.
 fn end_value(points: &[u32], starts: &[u32], e: Endpoint) -> u32
-    requires { ⌜ (goodStarts (length (now points)) (now starts) ≡ true) × (e .0 / 2 < length (now starts)) ⌝ }
+    requires { ⌜ goodStarts (length (now points)) (now starts) ≡ true ⌝ }
     ensures { λ r. ⌜ r ≡ valueAt 0 (strokesIn (now (points .entry)) (now (starts .entry))) (e .0) ⌝ }
 {
-    let i = e.path_id();
-    let a = starts[i] as usize;
-    let b = end_of(starts, i, points.len());
+    let s = span_of(points, starts, e.path_id());
+    let a = s.from;
+    let b = s.to;
     if a == b {
         return 0;
     }
@@ -48,12 +68,11 @@ fn end_value(points: &[u32], starts: &[u32], e: Endpoint) -> u32
 
 // 1 where stroke i has points.
 fn there(points: &[u32], starts: &[u32], i: usize) -> u32
-    requires { ⌜ (goodStarts (length (now points)) (now starts) ≡ true) × (i < length (now starts)) ⌝ }
+    requires { ⌜ goodStarts (length (now points)) (now starts) ≡ true ⌝ }
     ensures { λ r. ⌜ r ≡ present (getD (strokesIn (now (points .entry)) (now (starts .entry))) i []) ⌝ }
 {
-    let a = starts[i] as usize;
-    let b = end_of(starts, i, points.len());
-    if a == b {
+    let s = span_of(points, starts, i);
+    if s.from == s.to {
         return 0;
     }
     1
@@ -61,7 +80,7 @@ fn there(points: &[u32], starts: &[u32], i: usize) -> u32
 
 // Writes the value of each end.
 fn fill_values(points: &[u32], starts: &[u32], v: &mut [u32])
-    requires { ⌜ (goodStarts (length (now points)) (now starts) ≡ true) × (length (now v) ≡ 2 * length (now starts)) ⌝ }
+    requires { ⌜ goodStarts (length (now points)) (now starts) ≡ true ⌝ }
     ensures { λ _. ⌜ ((e : ℕ) → e < length (now (v .entry)) → getD (now (v .exit)) e 0 ≡ valueAt 0 (strokesIn (now (points .entry)) (now (starts .entry))) e) ⌝ }
 {
     let mut e: usize = 0;
@@ -74,7 +93,7 @@ fn fill_values(points: &[u32], starts: &[u32], v: &mut [u32])
 
 // Writes which strokes have points.
 fn fill_todo(points: &[u32], starts: &[u32], t: &mut [u32])
-    requires { ⌜ (goodStarts (length (now points)) (now starts) ≡ true) × (length (now t) ≡ length (now starts)) ⌝ }
+    requires { ⌜ goodStarts (length (now points)) (now starts) ≡ true ⌝ }
     ensures { λ _. ⌜ ((i : ℕ) → i < length (now (t .entry)) → getD (now (t .exit)) i 0 ≡ present (getD (strokesIn (now (points .entry)) (now (starts .entry))) i [])) ⌝ }
 {
     let mut i: usize = 0;
@@ -134,22 +153,20 @@ fn read_entry(points: &[u32], starts: &[u32], x: u32, out: &mut [u32], at: usize
         × (r ≡ at + length (part (strokesIn (now (points .entry)) (now (starts .entry))) x)) ⌝ }
 {
     let e = Endpoint(x as usize / 2);
-    let i = e.path_id();
-    if starts.len() <= i {
-        return at;
-    }
-    let a = starts[i] as usize;
-    let b = end_of(starts, i, points.len());
+    let s = span_of(points, starts, e.path_id());
+    let a = s.from;
+    let b = s.to;
     if a == b {
         return at;
     }
     let k = 1 - x as usize % 2;
+    let n = b - a - k;
     if e.is_last() {
         write_backward(points, a, b - k, out, at);
-        return at + (b - k - a);
+        return at + n;
     }
     write_forward(points, a + k, b, out, at);
-    at + (b - (a + k))
+    at + n
 }
 
 // Writes the start of a chain where entry x begins one, and answers the place after it.

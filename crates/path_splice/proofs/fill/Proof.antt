@@ -29,9 +29,7 @@ slice-aggregate-fill-values c =
     sym (length-take-le (2 * length (z .args .starts .now)) (z .args .s .now) (omega (arith, z .pre .1)))
 
 fill-values-requires : tie.Need-fill-values-requires
-fill-values-requires c κs =
-    let z = c .before .before .before .before in
-    (z .pre .0, length-take-le (2 * length (z .args .starts .now)) (z .args .s .now) (omega (arith, z .pre .1)))
+fill-values-requires c κs = search needs
 
 mul-fill-todo : tie.Need-mul-fill-todo
 mul-fill-todo c = search needs

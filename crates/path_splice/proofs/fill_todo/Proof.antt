@@ -20,7 +20,7 @@ loop-holds : tie.Need-loop-holds Inv-loop μ-loop
 loop-holds c = (omega arith, refl, λ j h. absurd (omega arith))
 
 there-requires : tie.Need-there-requires Inv-loop μ-loop
-there-requires c κs = (c .before .before .before .before .before .pre .0, omega (arith, c .before .before .before .before .before .pre .1, c .before .loop .inv .1, c .loop-test .taken))
+there-requires c κs = c .before .before .before .before .before .pre
 
 mul-t : tie.Need-mul-t Inv-loop μ-loop
 mul-t c = search needs

@@ -19,7 +19,7 @@ loop-holds : tie.Need-loop-holds Inv-loop μ-loop
 loop-holds c = (omega arith, refl, λ j h. absurd (omega arith))
 
 end-value-requires : tie.Need-end-value-requires Inv-loop μ-loop
-end-value-requires c κs = (c .before .before .before .before .before .pre .0, omega (arith, c .before .before .before .before .before .pre .1, c .before .loop .inv .1, c .loop-test .taken))
+end-value-requires c κs = c .before .before .before .before .before .pre
 
 mul-v : tie.Need-mul-v Inv-loop μ-loop
 mul-v c = search needs
