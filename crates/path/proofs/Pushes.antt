@@ -33,6 +33,12 @@ unfolding nonEmpty
 none-kept [] ss h = refl
 none-kept (x ∷ xs) ss h = absurd (omega arith)
 
+pub no-more-kept : {A : Type 0} (ss : List (List A)) → length (nonEmpty ss) ≤ length ss
+unfolding nonEmpty
+no-more-kept [] = omega arith
+no-more-kept ([] ∷ ss) = let h = no-more-kept ss in omega arith
+no-more-kept ((x ∷ xs) ∷ ss) = let h = no-more-kept ss in omega arith
+
 pub same-out : {B : Type 0} {a b : List B} {d e : List ℕ} {p q : Place} → a ≡ b → d ≡ e → p ≡ q → out a d p ≡ out b e q
 same-out x y z = cc
 
@@ -40,6 +46,10 @@ module _ {A B : Type 0} (put : List B → ℕ → List A → List B) where
   pub ink-at : (p q : Pen B) (a b : List A) → inked put p a ≡ inked put q b → p .at + length a ≡ q .at + length b
   unfolding inked
   ink-at p q a b e = ap (λ (x : Pen B). x .at) e
+
+  pub ink-place : (p : Pen B) (s : List A) {q : List B} {o : ℕ} → pen q o ≡ inked put p s → o ≡ p .at + length s
+  unfolding inked
+  ink-place p s e = ap (λ (x : Pen B). x .at) e
 
   pub push-none : (o : Out B) (s : List A) → length s ≡ 0 → push put o s ≡ o
   unfolding push
@@ -60,6 +70,20 @@ module _ {A B : Type 0} (put : List B → ℕ → List A → List B) where
       let a : q ≡ put (o .buf) (o .place .points) s = ap (λ (p : Pen B). p .buf) e in
       let b : k ≡ o .place .points + length s = ap (λ (p : Pen B). p .at) e in
       cc (push-some o s h)
+
+  -- a turn of a loop over strokes, and its end
+  pub push-turn : (o q : Out B) {s : List A} {rest all : List (List A)} → all ≡ s ∷ rest → q ≡ push put o s → pushAll put q rest ≡ pushAll put o all
+  unfolding pushAll
+  push-turn o q e g = rw (e, g)
+
+  pub push-end : (o : Out B) {all : List (List A)} → all ≡ [] → pushAll put o all ≡ o
+  unfolding pushAll
+  push-end o e = rw e
+
+  pub push-starts : (o q : Out B) (s : List A) → q ≡ push put o s → q .place .starts ≤ o .place .starts + 1
+  unfolding push
+  push-starts o q [] e = rw e (omega arith)
+  push-starts o q (x ∷ xs) e = rw e (omega arith)
 
   pub all-starts : (o : Out B) (ss : List (List A)) → pushAll put o ss .starts ≡ sets (o .starts) (o .place .starts) (startsFrom (o .place .points) (nonEmpty ss))
   unfolding pushAll push nonEmpty startsFrom

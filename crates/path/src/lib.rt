@@ -110,6 +110,15 @@ pub fn put_point(out: &mut [f64], i: usize, v: Vector)
     }
 }
 
+// Stores a number in a table or a list of numbers at place k; past the end nothing.
+pub fn put_number(out: &mut [u32], k: usize, x: u32)
+    ensures { λ _. ⌜ now (out .exit) ≡ set (now (out .entry)) k x ⌝ }
+{
+    if k < out.len() {
+        out[k] = x;
+    }
+}
+
 // Whether the points come three numbers each and the table is good for them.
 pub fn shaped(points: &[f64], starts: &[u32]) -> bool
     ensures { λ r. ⌜ r ≡ shapedOf (now (points .entry)) (now (starts .entry)) ⌝ }

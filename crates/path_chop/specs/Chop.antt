@@ -1,0 +1,55 @@
+-- Cutting strokes into steps: a point after each step along a span, the steps a running sum.
+use mathlib.Core.Bool.{cond}
+use mathlib.Core.List.{List, [], _∷_, _++_, map}
+use Prim.Native.Nat.{ℕ, zero, suc, _+_, _/_, min}
+use lib.Dec.{leb}
+use lib.ListN.{length}
+use lib.Ieee.{Float, binary64, add, div, lt}
+use Rattle.refusal.specs.Limits.{mostPoints}
+use Rattle.vector.specs.declared.Vector.{Vector}
+use Rattle.vector.specs.Vectors.{addOf, subOf, mulScalarOf}
+use Rattle.vector.specs.Lengths.{lengthOf}
+use Rattle.path.specs.Strokes.{pointAt, strokesOf}
+
+-- one point above the most that may be written: no more are looked at
+abbrev pub tooMany : ℕ
+tooMany = mostPoints + 1
+
+-- the point at distance d of l from a along v
+abbrev pub along : Vector → Vector → Float → Float → Vector
+along a v l d = addOf a (mulScalarOf v (div binary64 d l))
+
+-- d, d + step, and so on, while below l: the first n of them at most
+unfoldable pub stepsOf : ℕ → Float → Float → Float → List Float
+stepsOf zero l step d = []
+stepsOf (suc n) l step d = let r = d ∷ stepsOf n l step (add binary64 d step) in cond (lt d l) r []
+
+-- what a span from a to b gives after a, where v is b from a and l its length
+unfoldable pub cut : Float → Vector → Vector → Vector → Float → List Vector
+cut step a b v l = map (along a v l) (stepsOf tooMany l step step) ++ (b ∷ [])
+
+unfoldable pub span : Float → Vector → Vector → List Vector
+span step a b = cut step a b (subOf b a) (lengthOf (subOf b a))
+
+-- the spans from a over the points that follow it
+unfoldable pub spans : Float → Vector → List Vector → List Vector
+spans step a [] = []
+spans step a (b ∷ vs) = span step a b ++ spans step b vs
+
+-- a stroke of one point vanishes
+unfoldable pub chopped : Float → List Vector → List Vector
+chopped step [] = []
+chopped step (a ∷ []) = []
+chopped step (a ∷ b ∷ vs) = a ∷ spans step a (b ∷ vs)
+
+-- every stroke of the list
+unfoldable pub choppedOf : Float → List Float → List ℕ → List (List Vector)
+choppedOf step ps ss = map (chopped step) (strokesOf (pointAt ps) (length ps / 3) ss)
+
+-- 1 where a stroke of n points leaves something, 0 where it vanishes
+unfoldable pub keptOf : ℕ → ℕ
+keptOf n = cond (leb 2 n) 1 0
+
+-- a count of points, no longer counted where it is above the most
+unfoldable pub capped : ℕ → ℕ
+capped n = min n tooMany

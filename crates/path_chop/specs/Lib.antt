@@ -1,0 +1,3 @@
+pub mod Chop
+pub mod Call
+pub mod Cases

@@ -1,0 +1,311 @@
+// Cutting strokes into steps: path_chop of the source, over lent lists.
+use path::Place;
+use path::coordinates_good;
+use path::counted;
+use path::end_of;
+use path::point_at;
+use path::put_number;
+use path::put_point;
+use path::shaped;
+use path::step_good;
+use refusal::MOST_POINTS;
+use refusal::Refusal;
+use refusal::Verdict;
+use vector::Vector;
+ghost use mathlib.Core.Path.{_≡_};
+ghost use mathlib.Core.List.{map};
+ghost use Prim.Native.Nat.{_+_, _-_, _/_, _≤_, _<_};
+ghost use lib.ListN.{length};
+ghost use Rattle.refusal.specs.Limits.{mostPoints};
+ghost use Rattle.path.specs.Strokes.{pointAt, gather, strokesOf};
+ghost use Rattle.path.specs.Laid.{putPoints, pen, inked, out, push, pushAll, joined, nonEmpty};
+ghost use Rattle.path.specs.Left.{left};
+ghost use Rattle.path_chop.specs.Chop.{tooMany, along, stepsOf, cut, span, spans, chopped, choppedOf, keptOf, capped};
+ghost use Rattle.path_chop.specs.Call.{said, roomFor, chopVerdict, chopLeft};
+
+// What a chop wrote, or why it was refused.
+pub enum Chopped {
+    Wrote { points: usize, starts: usize },
+    Refused(Refusal),
+}
+
+// No more points than these are looked at in one span.
+const TOO_MANY: usize = MOST_POINTS + 1;
+
+// How many points lie within a span of length l. d is a running sum, as the source's.
+fn count_steps(l: f64, step: f64) -> usize
+    ensures { λ r. ⌜ (r ≡ length (stepsOf tooMany l step step)) × (r ≤ tooMany) ⌝ }
+{
+    let mut n = 0;
+    let mut d = step;
+    while n < TOO_MANY {
+        if d < l {
+            n += 1;
+            d = d + step;
+        } else {
+            return n;
+        }
+    }
+    n
+}
+
+// Writes the points within a span of length l along v from a.
+fn write_steps(a: Vector, v: Vector, l: f64, step: f64, out: &mut [f64], at: usize) -> usize
+    requires { ⌜ at + length (stepsOf tooMany l step step) ≤ mostPoints ⌝ }
+    ensures { λ r. ⌜ pen (now (out .exit)) r ≡ inked putPoints (pen (now (out .entry)) at) (map (along a v l) (stepsOf tooMany l step step)) ⌝ }
+{
+    let mut n = 0;
+    let mut o = at;
+    let mut d = step; // the first point lies a step from a
+    while n < TOO_MANY {
+        if d < l {
+            put_point(out, o, a.add(v.mul_scalar(d / l)));
+            n += 1;
+            o += 1;
+            d = d + step; // a running sum, never a product
+        } else {
+            return o;
+        }
+    }
+    o
+}
+
+// Writes what the span from a to b gives after a.
+fn write_span(a: Vector, b: Vector, step: f64, out: &mut [f64], at: usize) -> usize
+    requires { ⌜ at + length (span step a b) ≤ mostPoints ⌝ }
+    ensures { λ r. ⌜ pen (now (out .exit)) r ≡ inked putPoints (pen (now (out .entry)) at) (span step a b) ⌝ }
+{
+    let v = b.sub(a);
+    let l = v.length();
+    let o = write_steps(a, v, l, step, out, at);
+    put_point(out, o, b);
+    o + 1
+}
+
+// Writes what the points from place i up to e give after the point before them.
+fn write_spans(
+    points: &[f64],
+    i: usize,
+    e: usize,
+    first: Vector,
+    step: f64,
+    out: &mut [f64],
+    at: usize,
+) -> usize
+    requires { ⌜ at + length (spans step first (gather (pointAt (now points)) i (e - i))) ≤ mostPoints ⌝ }
+    ensures { λ r. ⌜ pen (now (out .exit)) r ≡ inked putPoints (pen (now (out .entry)) at) (spans step first (gather (pointAt (now (points .entry))) i (e - i))) ⌝ }
+{
+    let mut j = i;
+    let mut o = at;
+    let mut p = first;
+    while j < e {
+        let q = point_at(points, j);
+        o = write_span(p, q, step, out, o);
+        p = q;
+        j += 1;
+    }
+    o
+}
+
+// 1 where the stroke from place a up to e leaves something, 0 where it vanishes.
+fn kept(a: usize, e: usize) -> usize
+    ensures { λ r. ⌜ r ≡ keptOf (e - a) ⌝ }
+{
+    if a < e {
+        if 2 <= e - a {
+            return 1;
+        }
+    }
+    0
+}
+
+// Writes a stroke of two points or more, the points from place a up to e.
+fn write_chopped(points: &[f64], a: usize, e: usize, step: f64, out: &mut [f64], at: usize) -> usize
+    requires { ⌜ (a + 2 ≤ e) × (at + length (chopped step (gather (pointAt (now points)) a (e - a))) ≤ mostPoints) ⌝ }
+    ensures { λ r. ⌜ pen (now (out .exit)) r ≡ inked putPoints (pen (now (out .entry)) at) (chopped step (gather (pointAt (now (points .entry))) a (e - a))) ⌝ }
+{
+    let p = point_at(points, a);
+    put_point(out, at, p);
+    write_spans(points, a + 1, e, p, step, out, at + 1)
+}
+
+// Writes a stroke and its start; of one that vanishes nothing.
+fn write_stroke(
+    points: &[f64],
+    a: usize,
+    e: usize,
+    step: f64,
+    out_points: &mut [f64],
+    out_starts: &mut [u32],
+    p: Place,
+) -> Place
+    requires { ⌜ (p .points + length (chopped step (gather (pointAt (now points)) a (e - a))) ≤ mostPoints) × (p .starts ≤ mostPoints) ⌝ }
+    ensures { λ r. ⌜ out (now («out_points» .exit)) (now («out_starts» .exit)) r
+        ≡ push putPoints (out (now («out_points» .entry)) (now («out_starts» .entry)) p) (chopped step (gather (pointAt (now (points .entry))) a (e - a))) ⌝ }
+{
+    if kept(a, e) == 0 {
+        return p;
+    }
+    let at = p.points;
+    let k = p.starts;
+    put_number(out_starts, k, at as u32);
+    let o = write_chopped(points, a, e, step, out_points, at);
+    Place {
+        points: o,
+        starts: k + 1,
+    }
+}
+
+// Writes every stroke.
+fn write_strokes(
+    points: &[f64],
+    starts: &[u32],
+    step: f64,
+    out_points: &mut [f64],
+    out_starts: &mut [u32],
+) -> Place
+    requires { ⌜ (length (joined (choppedOf step (now points) (now starts))) ≤ mostPoints) × (length (now starts) ≤ mostPoints) ⌝ }
+    ensures { λ r. ⌜ out (now («out_points» .exit)) (now («out_starts» .exit)) r
+        ≡ pushAll putPoints (out (now («out_points» .entry)) (now («out_starts» .entry)) (record { points = 0; starts = 0 })) (choppedOf step (now (points .entry)) (now (starts .entry))) ⌝ }
+{
+    let mut p = Place {
+        points: 0,
+        starts: 0,
+    };
+    let mut i = 0;
+    while i < starts.len() {
+        let a = starts[i] as usize;
+        let e = end_of(starts, i, points.len() / 3);
+        p = write_stroke(points, a, e, step, out_points, out_starts, p);
+        i += 1;
+    }
+    p
+}
+
+// A count of points, no longer counted where it is above the most.
+fn cap(n: usize) -> usize
+    ensures { λ r. ⌜ r ≡ capped n ⌝ }
+{
+    if MOST_POINTS < n {
+        return TOO_MANY;
+    }
+    n
+}
+
+// What the points from place i up to e add to a count. No span is looked at once there are too many.
+fn count_spans(points: &[f64], i: usize, e: usize, first: Vector, step: f64, so_far: usize) -> usize
+    requires { ⌜ «so_far» ≤ tooMany + 1 ⌝ }
+    ensures { λ r. ⌜ r ≡ capped («so_far» + length (spans step first (gather (pointAt (now (points .entry))) i (e - i)))) ⌝ }
+{
+    let mut j = i;
+    let mut n = so_far;
+    let mut p = first;
+    while j < e {
+        if MOST_POINTS < n {
+            return TOO_MANY;
+        }
+        let q = point_at(points, j);
+        n = n + count_steps(q.sub(p).length(), step) + 1;
+        p = q;
+        j += 1;
+    }
+    cap(n)
+}
+
+// What the stroke from place a up to e adds to a count.
+fn count_stroke(points: &[f64], a: usize, e: usize, step: f64, so_far: usize) -> usize
+    requires { ⌜ «so_far» ≤ tooMany ⌝ }
+    ensures { λ r. ⌜ r ≡ capped («so_far» + length (chopped step (gather (pointAt (now (points .entry))) a (e - a)))) ⌝ }
+{
+    if kept(a, e) == 0 {
+        return cap(so_far);
+    }
+    count_spans(points, a + 1, e, point_at(points, a), step, so_far + 1)
+}
+
+// How many points, no longer counted where they are too many, and starts would be written.
+fn count_strokes(points: &[f64], starts: &[u32], step: f64) -> Place
+    ensures { λ r. ⌜ (r .points ≡ capped (length (joined (choppedOf step (now (points .entry)) (now (starts .entry))))))
+        × (r .starts ≡ length (nonEmpty (choppedOf step (now (points .entry)) (now (starts .entry))))) ⌝ }
+{
+    let mut n = 0;
+    let mut k = 0;
+    let mut j = 0;
+    while j < starts.len() {
+        let a = starts[j] as usize;
+        let e = end_of(starts, j, points.len() / 3);
+        n = count_stroke(points, a, e, step, n);
+        k = k + kept(a, e);
+        j += 1;
+    }
+    Place {
+        points: n,
+        starts: k,
+    }
+}
+
+// Whether there is room for all, and not too much in all.
+fn fits(points: &[f64], starts: &[u32], step: f64, room: usize, start_room: usize) -> bool
+    ensures { λ r. ⌜ r ≡ roomFor (choppedOf step (now (points .entry)) (now (starts .entry))) room «start_room» ⌝ }
+{
+    let p = count_strokes(points, starts, step);
+    if MOST_POINTS < p.points {
+        return false;
+    }
+    if room < p.points * 3 {
+        return false;
+    }
+    p.starts <= start_room
+}
+
+// The tests of a call, in the order of their numbers.
+fn chop_verdict(
+    points: &[f64],
+    starts: &[u32],
+    step: f64,
+    room: usize,
+    start_room: usize,
+) -> Verdict
+    ensures { λ r. ⌜ r ≡ chopVerdict (now (points .entry)) (now (starts .entry)) step room «start_room» ⌝ }
+{
+    if !shaped(points, starts) {
+        return Verdict::Refused(Refusal::Shape);
+    }
+    if !counted(points.len() / 3, starts.len()) {
+        return Verdict::Refused(Refusal::Count);
+    }
+    if !coordinates_good(points) {
+        return Verdict::Refused(Refusal::Number);
+    }
+    if !step_good(step) {
+        return Verdict::Refused(Refusal::Number);
+    }
+    if !fits(points, starts, step, room, start_room) {
+        return Verdict::Refused(Refusal::Room);
+    }
+    Verdict::Accepted
+}
+
+// Cuts every stroke into steps; a stroke of one point vanishes.
+pub fn chop(
+    points: &[f64],
+    starts: &[u32],
+    step: f64,
+    out_points: &mut [f64],
+    out_starts: &mut [u32],
+) -> Chopped
+    ensures { λ r. ⌜ left (said r) (now («out_points» .exit)) (now («out_starts» .exit))
+        ≡ chopLeft (now (points .entry)) (now (starts .entry)) step (now («out_points» .entry)) (now («out_starts» .entry)) ⌝ }
+{
+    let v = chop_verdict(points, starts, step, out_points.len(), out_starts.len());
+    match v {
+        Verdict::Accepted => {
+            let p = write_strokes(points, starts, step, out_points, out_starts);
+            Chopped::Wrote {
+                points: p.points,
+                starts: p.starts,
+            }
+        }
+        Verdict::Refused(r) => Chopped::Refused(r),
+    }
+}
