@@ -20,6 +20,7 @@ use Rattle.order.proofs.Sorted.{order-length}
 use Rattle.path_link.proofs.Running.{mirrored-none, mirrored-more, Edge, linked-none, linked-more, edge-more, apart}
 use Rattle.path_link.proofs.Lives.{Living, living, skip, keep, lived, placed, ranked, ends-linked}
 use Rattle.order.proofs.Parts.{length-put, length-region, get-region, region-put, region-off, into-none, into-size, into-get, into-region, into-own, into-set, into-then, into-as}
+use Rattle.refusal.specs.Limits.{mostStrokes}
 
 -- the live ends
 module _ (s₀ : List ℕ) (n : ℕ) (H : 7 * n ≤ length s₀) where
@@ -149,7 +150,7 @@ module _ (s₀ : List ℕ) (n c : ℕ) (H : 7 * n ≤ length s₀) (hc : c ≤ 2
   links-all s p e I = subst (λ (z : ℕ). Into s₀ s (4 * n) (2 * n) (λ ls. Linked Vs O2 L2 ls z)) e (I .1)
 
 -- from what is to do to the links
-module _ (s₀ : List ℕ) (n : ℕ) (H : 7 * n ≤ length s₀) (few : n ≤ 196608) (s1 : List ℕ) (c : ℕ)
+module _ (s₀ : List ℕ) (n : ℕ) (H : 7 * n ≤ length s₀) (few : n ≤ mostStrokes) (s1 : List ℕ) (c : ℕ)
     (J : Into s₀ s1 (2 * n) (2 * n) (λ a. Lived (region s₀ (6 * n) n) (region s₀ (2 * n) (2 * n)) a c)) where
   abbrev T3 : List ℕ
   T3 = region s₀ (6 * n) n

@@ -23,6 +23,7 @@ use Rattle.path_ends.proofs.Totals.{total-length}
 use Rattle.path_ends.proofs.Linking.{links-upto}
 use Rattle.path_link.proofs.Loop.{Walking, walking, inside, finish, turn}
 use Rattle.order.proofs.Parts.{region-put, region-off, length-put, get-off, get-in, cleared, put-same, put-append, length-region, get-region, into2-none, into2-size, into2-region, into2-first, into2-second, into2-as, into2-set, into2-then}
+use Rattle.refusal.specs.Limits.{mostStrokes}
 
 -- the two regions that a walk writes are apart
 pub away : (n : ℕ) → Off (6 * n) n (2 * n) n
@@ -310,7 +311,7 @@ unfolding entry
 last-of link = λ j x. atLast x
 
 -- the whole
-module _ (s₀ : List ℕ) (n : ℕ) (H : 7 * n ≤ length s₀) (few : n ≤ 196608) (s1 : List ℕ) (z1 : length s1 ≡ length s₀) (K : LinksIn s₀ s1 n) where
+module _ (s₀ : List ℕ) (n : ℕ) (H : 7 * n ≤ length s₀) (few : n ≤ mostStrokes) (s1 : List ℕ) (z1 : length s1 ≡ length s₀) (K : LinksIn s₀ s1 n) where
   abbrev LS : List ℕ
   LS = links (fitLive (region s₀ (6 * n) n) (region s₀ 0 (2 * n))) (2 * n)
 
@@ -413,27 +414,27 @@ module _ (s : List ℕ) (n : ℕ) (H : 7 * n ≤ length s) (s1 : List ℕ) (z : 
       ∙ ap (λ (k : ℕ). put (put s (2 * n) (orderIn s n)) (2 * n + k) (replicate (5 * n - k) 0)) (sym order-long)
       ∙ put-append s (2 * n) (orderIn s n) (replicate (5 * n - length (orderIn s n)) 0)
 
-  pub thread-yes : n ≤ 196608 → (s′ : List ℕ) → s′ ≡ put s (2 * n) (orderIn s n ++ replicate (5 * n - length (orderIn s n)) 0) → threaded r s′ ≡ threadIn s n
+  pub thread-yes : n ≤ mostStrokes → (s′ : List ℕ) → s′ ≡ put s (2 * n) (orderIn s n ++ replicate (5 * n - length (orderIn s n)) 0) → threaded r s′ ≡ threadIn s n
   unfolding threadIn
-  thread-yes f s′ e = rw (le-leb n 196608 f, le-leb (7 * n) (length s) H) (ap (λ (k : ℕ). threaded k s′) (sym order-long) ∙ ap (threaded (length (orderIn s n))) e)
+  thread-yes f s′ e = rw (le-leb n mostStrokes f, le-leb (7 * n) (length s) H) (ap (λ (k : ℕ). threaded k s′) (sym order-long) ∙ ap (threaded (length (orderIn s n))) e)
 
 module _ (s : List ℕ) (n : ℕ) where
-  pub thread-many : 196608 < n → threaded 0 s ≡ threadIn s n
+  pub thread-many : mostStrokes < n → threaded 0 s ≡ threadIn s n
   unfolding threadIn
-  thread-many h = rw (lt-leb n 196608 h)
+  thread-many h = rw (lt-leb n mostStrokes h)
 
-  pub thread-short : n ≤ 196608 → length s < 7 * n → threaded 0 s ≡ threadIn s n
+  pub thread-short : n ≤ mostStrokes → length s < 7 * n → threaded 0 s ≡ threadIn s n
   unfolding threadIn
-  thread-short f h = rw (le-leb n 196608 f, lt-leb (7 * n) (length s) h)
+  thread-short f h = rw (le-leb n mostStrokes f, lt-leb (7 * n) (length s) h)
 
 -- what the answer says where there is room
-module _ (s s′ : List ℕ) (n r : ℕ) (H : 7 * n ≤ length s) (f : n ≤ 196608) (few : r ≤ n) (e : threaded r s′ ≡ threadIn s n) where
+module _ (s s′ : List ℕ) (n r : ℕ) (H : 7 * n ≤ length s) (f : n ≤ mostStrokes) (few : r ≤ n) (e : threaded r s′ ≡ threadIn s n) where
   abbrev All : List ℕ
   All = orderIn s n ++ replicate (5 * n - length (orderIn s n)) 0
 
   thread-is : threaded r s′ ≡ threaded (length (orderIn s n)) (put s (2 * n) All)
   unfolding threadIn
-  thread-is = rw (le-leb n 196608 f, le-leb (7 * n) (length s) H) at e
+  thread-is = rw (le-leb n mostStrokes f, le-leb (7 * n) (length s) H) at e
 
   count-is : r ≡ length (orderIn s n)
   count-is = ap (λ (t : Threaded). t .count) thread-is

@@ -1,4 +1,4 @@
--- The ends as the code has them: a list with the value of each end.
+-- The ends as words of scratch have them: `vs` the value of each end, `todo` not 0 for each stroke that is there.
 -- Assumes nothing.
 use mathlib.Core.Path.{_≡_}
 use mathlib.Core.List.{List, [], _∷_, _++_}
@@ -8,10 +8,11 @@ use lib.ListN.{getD, length, drop}
 use lib.Dec.{eqb}
 use Rattle.path_ends.specs.Splice.{isZero}
 
+-- e and f are ends of two strokes, and of one value
 unfoldable pub fit : List ℕ → ℕ → ℕ → Bool
 fit vs e f = not (eqb (e / 2) (f / 2)) && eqb (getD vs e 0) (getD vs f 0)
 
--- the same, for strokes that `todo` says are there
+-- and both strokes are there
 unfoldable pub fitLive : List ℕ → List ℕ → ℕ → ℕ → Bool
 fitLive todo vs e f = not (isZero (getD todo (e / 2) 0)) && not (isZero (getD todo (f / 2) 0)) && fit vs e f
 

@@ -1,4 +1,4 @@
--- How the strokes' words lie in one list: with m ends of n strokes, the values from 0, the order from m, the links from 2 m, what is to do from 3 m.
+-- The words of n strokes in one list: the values of their ends from 0, the order from 2 n, the links from 4 n, what is to do from 6 n up to 7 n.
 -- Assumes nothing.
 use mathlib.Core.Path.{_≡_}
 use mathlib.Core.List.{List}
@@ -8,7 +8,7 @@ use Rattle.order.specs.Regions.{region}
 use Rattle.path_ends.specs.Splice.{links}
 use Rattle.path_link.specs.Ends.{fitLive}
 
--- the links of n strokes, and what is to do as it was
+-- the links are the definition's, and the values, what is to do and all from 7 n on are as they were
 pub record LinksIn (s s′ : List ℕ) (n : ℕ) : Type 0 where
   pub links : region s′ (4 * n) (2 * n) ≡ links (fitLive (region s (6 * n) n) (region s 0 (2 * n))) (2 * n)
   pub todo : region s′ (6 * n) n ≡ region s (6 * n) n

@@ -1,4 +1,4 @@
--- What the walk's code promises.
+-- The order that the walk writes: for each stroke entered, in turn, its end times two, plus 1 where a chain begins.
 -- Assumes nothing.
 use mathlib.Core.Path.{_≡_}
 use mathlib.Core.Bool.{Bool, _&&_, cond}
@@ -12,6 +12,7 @@ use Rattle.path_ends.specs.Splice.{isZero, run, from, Walked, atFree, atLast, c
 use Rattle.path_link.specs.Ends.{fitLive}
 use Rattle.path_ends.specs.Totals.{total}
 
+-- the link of end e
 abbrev pub linkIn : List ℕ → ℕ → ℕ
 linkIn ls e = getD ls e 0
 
@@ -35,7 +36,7 @@ pub record RunIs (ls todo order : List ℕ) (at start : ℕ) (todo′ order′ :
   pub front : take r order′ ≡ take at order ++ inked 1 (run (linkIn ls) (length todo) todo start .chain)
   pub room : total (λ s. 1) 0 todo′ + r ≤ length order′
 
--- chains were walked
+-- the chains of w were walked
 pub record Drew (w : Walked) (order : List ℕ) (at : ℕ) (todo′ order′ : List ℕ) (r : ℕ) : Type 0 where
   pub left : todo′ ≡ w .left
   pub front : take r order′ ≡ take at order ++ inkAll (w .chains)
@@ -52,7 +53,7 @@ begun ls n todo rings i = from (linkIn ls) n todo (cond (isZero (getD todo i 0))
 -- a list in which a walk can go
 pub record Ready (s : List ℕ) (n at : ℕ) : Type 0 where
   pub size : 7 * n ≤ length s
-  pub few : n ≤ 196608
+  pub few : n ≤ mostStrokes
   pub within : Within (region s (4 * n) (2 * n))
   pub room : total (λ s. 1) 0 (region s (6 * n) n) + at ≤ n
 
@@ -67,7 +68,7 @@ pub record Woven (s s′ : List ℕ) (n r : ℕ) : Type 0 where
   pub values : region s′ 0 (2 * n) ≡ region s 0 (2 * n)
   pub rest : (b m : ℕ) → 7 * n ≤ b → b + m ≤ length s → region s′ b m ≡ region s b m
 
--- what is answered and left: the words of the order, counted, from 2 n on, zero after them up to 7 n, and all else as it was
+-- how many words of the order there are, and what is left in scratch
 pub record Threaded : Type 0 where
   pub count : ℕ
   pub words : List ℕ
@@ -75,7 +76,7 @@ pub record Threaded : Type 0 where
 abbrev pub threaded : ℕ → List ℕ → Threaded
 threaded r s = record { count = r; words = s }
 
--- nothing is changed where there are too many strokes, or too few words
+-- the order from 2 n on, zero after it up to 7 n, and all else as it was; nothing is changed where there are too many strokes, or too few words
 unfoldable pub threadIn : List ℕ → ℕ → Threaded
 threadIn s n =
     let o = orderIn s n in

@@ -17,6 +17,7 @@ ghost use Rattle.path_link.specs.Ends.{Lived};
 ghost use Rattle.path_link.specs.Layout.{LinksIn};
 ghost use Rattle.path_link.specs.Runs.{Reach, Pair, Mirrored, Ranked, Linked};
 ghost use Rattle.path_link.specs.Walk.{linkIn, Within, RunIs, Drew, entry, begun, Ready, Woven, threaded, threadIn};
+ghost use Rattle.refusal.specs.Limits.{mostStrokes};
 
 // What an end is linked with: another end, or none.
 pub enum Link {
@@ -36,7 +37,7 @@ fn link_in(word: u32) -> Link
 
 // The word that says a link.
 fn word_of(l: Link) -> u32
-    requires { ⌜ wordOf l ≤ 393216 ⌝ }
+    requires { ⌜ wordOf l ≤ 2 * mostStrokes ⌝ }
     ensures { λ r. ⌜ r ≡ wordOf l ⌝ }
 {
     match l {
@@ -51,7 +52,7 @@ fn word_of(l: Link) -> u32
 
 // Writes the ends of the strokes that are there to the order, and answers how many there are.
 fn live_ends(s: &mut [u32], n: usize) -> usize
-    requires { ⌜ (7 * n ≤ length (now s)) × (n ≤ 196608) ⌝ }
+    requires { ⌜ (7 * n ≤ length (now s)) × (n ≤ mostStrokes) ⌝ }
     ensures { λ r. ⌜ Into (now (s .entry)) (now (s .exit)) (2 * n) (2 * n) (λ a. Lived (region (now (s .entry)) (6 * n) n) (region (now (s .entry)) (2 * n) (2 * n)) a r) ⌝ }
 {
     let mut e: usize = 0;
@@ -87,7 +88,7 @@ fn run_end(values: &[u32], s: &[u32], p: usize) -> usize
 
 // Where the run of place p in the order ends.
 fn reach(s: &[u32], n: usize, c: usize, p: usize) -> usize
-    requires { ⌜ (7 * n ≤ length (now s)) × (c ≤ 2 * n) × (p < c) × (n ≤ 196608) ⌝ }
+    requires { ⌜ (7 * n ≤ length (now s)) × (c ≤ 2 * n) × (p < c) × (n ≤ mostStrokes) ⌝ }
     ensures { λ r. ⌜ Reach (region (now (s .entry)) 0 (2 * n)) (region (now (s .entry)) (2 * n) c) p r ⌝ }
 {
     let m = 2 * n;
@@ -108,7 +109,7 @@ fn mirror_link(e: Endpoint, f: Endpoint) -> Link
 
 // Links the ends of the run from p to q.
 fn mirror_run(s: &mut [u32], n: usize, c: usize, p: usize, q: usize)
-    requires { ⌜ (7 * n ≤ length (now s)) × (n ≤ 196608) × (c ≤ 2 * n) × (p < q) × (q ≤ c) ⌝ }
+    requires { ⌜ (7 * n ≤ length (now s)) × (n ≤ mostStrokes) × (c ≤ 2 * n) × (p < q) × (q ≤ c) ⌝ }
     requires { ⌜ ((x : ℕ) → x < c → getD (region (now s) (2 * n) c) x 0 < 2 * n) ⌝ }
     requires { ⌜ ((x y : ℕ) → p ≤ x → x < y → y < q → getD (region (now s) (2 * n) c) x 0 ≢ getD (region (now s) (2 * n) c) y 0) ⌝ }
     ensures { λ _. ⌜ Into (now (s .entry)) (now (s .exit)) (4 * n) (2 * n) (λ ls. Mirrored (region (now (s .entry)) (2 * n) c) (region (now (s .entry)) (4 * n) (2 * n)) ls p q q) ⌝ }
@@ -126,7 +127,7 @@ fn mirror_run(s: &mut [u32], n: usize, c: usize, p: usize, q: usize)
 
 // Links the ends of every run.
 fn link_runs(s: &mut [u32], n: usize, c: usize)
-    requires { ⌜ (7 * n ≤ length (now s)) × (n ≤ 196608) × (c ≤ 2 * n) ⌝ }
+    requires { ⌜ (7 * n ≤ length (now s)) × (n ≤ mostStrokes) × (c ≤ 2 * n) ⌝ }
     requires { ⌜ Ranked (region (now s) 0 (2 * n)) (region (now s) (2 * n) c) (2 * n) ⌝ }
     ensures { λ _. ⌜ Into (now (s .entry)) (now (s .exit)) (4 * n) (2 * n) (λ ls. Linked (region (now (s .entry)) 0 (2 * n)) (region (now (s .entry)) (2 * n) c) (region (now (s .entry)) (4 * n) (2 * n)) ls c) ⌝ }
 {
@@ -140,7 +141,7 @@ fn link_runs(s: &mut [u32], n: usize, c: usize)
 
 // Links all ends that can be linked.
 fn link_ends(s: &mut [u32], n: usize)
-    requires { ⌜ (7 * n ≤ length (now s)) × (n ≤ 196608) ⌝ }
+    requires { ⌜ (7 * n ≤ length (now s)) × (n ≤ mostStrokes) ⌝ }
     ensures { λ _. ⌜ LinksIn (now (s .entry)) (now (s .exit)) n ⌝ }
 {
     let c = live_ends(s, n);
@@ -155,7 +156,7 @@ fn link_ends(s: &mut [u32], n: usize)
 // Where the walk goes on to from the stroke entered at e: the end linked with its other end, unless that stroke is drawn.
 fn onward(links: &[u32], todo: &[u32], e: Endpoint) -> Link
     requires { do ⌜ (← ⟦links.len()⟧) ≡ 2 * (← ⟦todo.len()⟧) ⌝ }
-    requires { do ⌜ (← ⟦links.len()⟧) ≤ 393216 ⌝ }
+    requires { do ⌜ (← ⟦links.len()⟧) ≤ 2 * mostStrokes ⌝ }
     requires { do ⌜ e .0 < (← ⟦links.len()⟧) ⌝ }
     requires { ⌜ Within (now links) ⌝ }
     ensures { λ r. ⌜ wordOf r ≡ onwardOf (now (todo .entry)) (getD (now (links .entry)) (oppositeOf (e .0)) 0) ⌝ }
@@ -178,7 +179,7 @@ fn onward(links: &[u32], todo: &[u32], e: Endpoint) -> Link
 
 // The same, in the strokes' words.
 fn go_on(s: &[u32], n: usize, e: Endpoint) -> Link
-    requires { ⌜ (7 * n ≤ length (now s)) × (n ≤ 196608) × (e .0 < 2 * n) ⌝ }
+    requires { ⌜ (7 * n ≤ length (now s)) × (n ≤ mostStrokes) × (e .0 < 2 * n) ⌝ }
     requires { ⌜ Within (region (now s) (4 * n) (2 * n)) ⌝ }
     ensures { λ r. ⌜ wordOf r ≡ onwardOf (region (now (s .entry)) (6 * n) n) (getD (region (now (s .entry)) (4 * n) (2 * n)) (oppositeOf (e .0)) 0) ⌝ }
 {
@@ -217,7 +218,7 @@ fn run(s: &mut [u32], n: usize, at: usize, start: Endpoint) -> usize
 
 // Whether end e is linked.
 fn is_connected(s: &[u32], n: usize, e: Endpoint) -> bool
-    requires { ⌜ (7 * n ≤ length (now s)) × (n ≤ 196608) × (e .0 < 2 * n) ⌝ }
+    requires { ⌜ (7 * n ≤ length (now s)) × (n ≤ mostStrokes) × (e .0 < 2 * n) ⌝ }
     ensures { λ r. ⌜ r ≡ not (isZero (linkIn (region (now (s .entry)) (4 * n) (2 * n)) (e .0))) ⌝ }
 {
     let at = e.0;
@@ -226,7 +227,7 @@ fn is_connected(s: &[u32], n: usize, e: Endpoint) -> bool
 
 // Where stroke i is entered: a free end, the first before the last, or none; or, of rings, the last.
 fn enter(s: &[u32], n: usize, i: usize, rings: bool) -> Link
-    requires { ⌜ (7 * n ≤ length (now s)) × (n ≤ 196608) × (i < n) ⌝ }
+    requires { ⌜ (7 * n ≤ length (now s)) × (n ≤ mostStrokes) × (i < n) ⌝ }
     ensures { λ r. ⌜ wordOf r ≡ entry (linkIn (region (now (s .entry)) (4 * n) (2 * n))) rings i ⌝ }
 {
     let last = Endpoint::new(i as u32, true);
@@ -280,7 +281,7 @@ fn walk_pass(s: &mut [u32], n: usize, at: usize, rings: bool) -> usize
 
 // Links the n strokes, and walks all chains: first those with a free end, then the rings.
 fn link_and_walk(s: &mut [u32], n: usize) -> usize
-    requires { ⌜ (7 * n ≤ length (now s)) × (n ≤ 196608) ⌝ }
+    requires { ⌜ (7 * n ≤ length (now s)) × (n ≤ mostStrokes) ⌝ }
     ensures { λ r. ⌜ Woven (now (s .entry)) (now (s .exit)) n r ⌝ }
 {
     link_ends(s, n);

@@ -37,16 +37,17 @@ use Rattle.path_ends.proofs.Spliced.{points-most, strokes-most, strokes-full}
 use Rattle.path_ends.proofs.Numbers.{numbers}
 use Rattle.path_splice.proofs.Tables.{strokes-length}
 use Rattle.path_splice.proofs.Readings.{mark-none, mark-one}
+use Rattle.refusal.specs.Limits.{mostStrokes, mostPoints}
 
-pub within-limits : (np n : ℕ) → countedOf np n ≡ true → (np ≤ 1048576) × (n ≤ 196608)
+pub within-limits : (np n : ℕ) → countedOf np n ≡ true → (np ≤ mostPoints) × (n ≤ mostStrokes)
 unfolding countedOf
 within-limits np n h =
-    let f = both (leb np 1048576) (leb n 196608) h in
+    let f = both (leb np mostPoints) (leb n mostStrokes) h in
     (leb-true _ _ (f .0), leb-true _ _ (f .1))
 
 -- what an accepted call has passed
 pub granted : (ps ss : List ℕ) (w r s : ℕ) → verdictOf ps ss w r s ≡ Accepted
-    → (goodStarts (length ps) ss ≡ true) × (length ps ≤ 1048576) × (length ss ≤ 196608) × (8 * length ss ≤ w) × (length ps ≤ r) × (length ss ≤ s)
+    → (goodStarts (length ps) ss ≡ true) × (length ps ≤ mostPoints) × (length ss ≤ mostStrokes) × (8 * length ss ≤ w) × (length ps ≤ r) × (length ss ≤ s)
 unfolding verdictOf
 granted ps ss w r s h =
     let a = passed _ _ _ h in

@@ -25,6 +25,7 @@ use Rattle.path_splice.proofs.Answers.{out-points, out-starts, laid-out
 use Rattle.path_splice.specs.Lent.{left}
 use Rattle.path_splice.specs.Text.{strokesIn, textOf, marksOf, ReadOut, Filled}
 use Rattle.path_splice.specs.Pairs.{pairsOf, Paired, Drawn, fits, pairsLeft}
+use Rattle.refusal.specs.Limits.{mostStrokes, mostPoints}
 
 -- a, a + 2, .. (n of them)
 abbrev evens : ℕ → ℕ → List ℕ
@@ -155,11 +156,11 @@ present-at ss i = List·getD-map present ss i []
 pub record Asks (op os ps ss order : List ℕ) : Type 0 where
   pub good : goodStarts (length ps) ss ≡ true
   pub points : length (textOf (strokesIn ps ss) order) ≤ length op
-  pub few : length (textOf (strokesIn ps ss) order) ≤ 1048576
+  pub few : length (textOf (strokesIn ps ss) order) ≤ mostPoints
   pub starts : length (marksOf (strokesIn ps ss) 0 order) ≤ length os
 
 -- the words filled in, and threaded
-module _ (s₀ : List ℕ) (n c : ℕ) (H : 8 * n ≤ length s₀) (low : n ≤ 196608) (s1 : List ℕ) (I : Into2 s₀ s1 (6 * n) n (7 * n) n (Paired n)) (s2 : List ℕ) (z2 : length s2 ≡ length s1) (W : Woven s1 s2 n c) where
+module _ (s₀ : List ℕ) (n c : ℕ) (H : 8 * n ≤ length s₀) (low : n ≤ mostStrokes) (s1 : List ℕ) (I : Into2 s₀ s1 (6 * n) n (7 * n) n (Paired n)) (s2 : List ℕ) (z2 : length s2 ≡ length s1) (W : Woven s1 s2 n c) where
   abbrev P : List ℕ
   P = take (2 * n) s₀
 
@@ -240,12 +241,12 @@ module _ (s₀ s1 : List ℕ) (n : ℕ) (H : 8 * n ≤ length s₀) (z : length 
       let m : length (take (8 * n) s1) ≡ 8 * n = length-take-le (8 * n) s1 (omega arith) in
       rw (f, m, length-replicate {A = ℕ} (8 * n) 0, e)
 
-pub pairs-fit : (n words room starts : ℕ) → fits n words room starts ≡ true → (8 * n ≤ words) × (n ≤ 196608) × (2 * n ≤ room) × (n ≤ starts)
+pub pairs-fit : (n words room starts : ℕ) → fits n words room starts ≡ true → (8 * n ≤ words) × (n ≤ mostStrokes) × (2 * n ≤ room) × (n ≤ starts)
 unfolding fits
 pairs-fit n words room starts h =
-    let a = both (leb n 196608 && leb (8 * n) words && leb (2 * n) room) (leb n starts) h in
-    let b = both (leb n 196608 && leb (8 * n) words) (leb (2 * n) room) (a .0) in
-    let d = both (leb n 196608) (leb (8 * n) words) (b .0) in
+    let a = both (leb n mostStrokes && leb (8 * n) words && leb (2 * n) room) (leb n starts) h in
+    let b = both (leb n mostStrokes && leb (8 * n) words) (leb (2 * n) room) (a .0) in
+    let d = both (leb n mostStrokes) (leb (8 * n) words) (b .0) in
     (leb-true _ _ (d .1), leb-true _ _ (d .0), leb-true _ _ (b .1), leb-true _ _ (a .1))
 
 module _ (s op os : List ℕ) (n : ℕ) where

@@ -22,6 +22,7 @@ ghost use Rattle.path_ends.specs.Splice.{valueAt, present, splice as spliceOf};
 ghost use Rattle.path_splice.specs.Text.{strokesIn, Spans, part, mark, textOf, marksOf, ReadOut, Filled, LaidOut};
 ghost use Rattle.path_splice.specs.Pairs.{Paired, Drawn, fits as fitsOf, pairsLeft};
 ghost use Rattle.path_splice.specs.Lent.{verdictOf, said, left, spliceLeft};
+ghost use Rattle.refusal.specs.Limits.{mostStrokes, mostPoints};
 
 // What a splice answers: how many points and starts were written, or why none were.
 pub enum Spliced {
@@ -106,7 +107,7 @@ fn fill_todo(points: &[u32], starts: &[u32], t: &mut [u32])
 
 // Writes the values of all ends and which strokes have points.
 fn fill(points: &[u32], starts: &[u32], s: &mut [u32])
-    requires { ⌜ (goodStarts (length (now points)) (now starts) ≡ true) × (7 * length (now starts) ≤ length (now s)) × (length (now starts) ≤ 196608) ⌝ }
+    requires { ⌜ (goodStarts (length (now points)) (now starts) ≡ true) × (7 * length (now starts) ≤ length (now s)) × (length (now starts) ≤ mostStrokes) ⌝ }
     ensures { λ _. ⌜ Filled (strokesIn (now (points .entry)) (now (starts .entry))) (now (s .exit)) (length (now (starts .entry))) ⌝ }
 {
     let n = starts.len();
@@ -171,7 +172,7 @@ fn read_entry(points: &[u32], starts: &[u32], x: u32, out: &mut [u32], at: usize
 
 // Writes the start of a chain where entry x begins one, and answers the place after it.
 fn put_mark(out: &mut [u32], q: usize, p: usize, x: u32) -> usize
-    requires { ⌜ (q + length (mark p x) ≤ length (now out)) × (p ≤ 1048576) ⌝ }
+    requires { ⌜ (q + length (mark p x) ≤ length (now out)) × (p ≤ mostPoints) ⌝ }
     ensures { λ r. ⌜ (now (out .exit) ≡ put (now (out .entry)) q (mark p x)) × (r ≡ q + length (mark p x)) ⌝ }
 {
     if x % 2 == 0 {
@@ -191,7 +192,7 @@ fn read_out(
 ) -> Place
     requires { ⌜ goodStarts (length (now points)) (now starts) ≡ true ⌝ }
     requires { ⌜ (length (textOf (strokesIn (now points) (now starts)) (now order)) ≤ length (now «out_points»))
-        × (length (textOf (strokesIn (now points) (now starts)) (now order)) ≤ 1048576)
+        × (length (textOf (strokesIn (now points) (now starts)) (now order)) ≤ mostPoints)
         × (length (marksOf (strokesIn (now points) (now starts)) 0 (now order)) ≤ length (now «out_starts»)) ⌝ }
     ensures { λ r. ⌜ ReadOut (strokesIn (now (points .entry)) (now (starts .entry))) (now (order .entry)) (now («out_points» .entry)) (now («out_starts» .entry))
         (now («out_points» .exit)) (now («out_starts» .exit)) (r .points) (r .starts) ⌝ }
@@ -219,7 +220,7 @@ fn draw(
     out_points: &mut [u32],
     out_starts: &mut [u32],
 ) -> Place
-    requires { ⌜ (goodStarts (length (now points)) (now starts) ≡ true) × (length (now points) ≤ 1048576) × (length (now starts) ≤ 196608) × (8 * length (now starts) ≤ length (now s))
+    requires { ⌜ (goodStarts (length (now points)) (now starts) ≡ true) × (length (now points) ≤ mostPoints) × (length (now starts) ≤ mostStrokes) × (8 * length (now starts) ≤ length (now s))
         × (length (now points) ≤ length (now «out_points»)) × (length (now starts) ≤ length (now «out_starts»)) ⌝ }
     ensures { λ r. ⌜ LaidOut (spliceOf 0 eqb (strokesIn (now (points .entry)) (now (starts .entry)))) (now («out_points» .entry)) (now («out_starts» .entry))
         (now («out_points» .exit)) (now («out_starts» .exit)) (r .points) (r .starts) ⌝ }
@@ -288,7 +289,7 @@ pub fn splice(
 
 // Writes that each of n strokes of two points is there, and where it begins.
 fn fill_pairs(s: &mut [u32], n: usize)
-    requires { ⌜ (8 * n ≤ length (now s)) × (n ≤ 196608) ⌝ }
+    requires { ⌜ (8 * n ≤ length (now s)) × (n ≤ mostStrokes) ⌝ }
     ensures { λ _. ⌜ Into2 (now (s .entry)) (now (s .exit)) (6 * n) n (7 * n) n (Paired n) ⌝ }
 {
     let mut i: usize = 0;
@@ -301,7 +302,7 @@ fn fill_pairs(s: &mut [u32], n: usize)
 
 // Writes the spliced strokes of the first 2 n words.
 fn draw_pairs(s: &mut [u32], n: usize, out_points: &mut [u32], out_starts: &mut [u32]) -> Place
-    requires { ⌜ (8 * n ≤ length (now s)) × (n ≤ 196608) × (2 * n ≤ length (now «out_points»)) × (n ≤ length (now «out_starts»)) ⌝ }
+    requires { ⌜ (8 * n ≤ length (now s)) × (n ≤ mostStrokes) × (2 * n ≤ length (now «out_points»)) × (n ≤ length (now «out_starts»)) ⌝ }
     ensures { λ r. ⌜ Drawn (now (s .entry)) (now (s .exit)) n (now («out_points» .entry)) (now («out_starts» .entry))
         (now («out_points» .exit)) (now («out_starts» .exit)) (r .points) (r .starts) ⌝ }
 {

@@ -1,3 +1,4 @@
+-- `link_and_walk` meets its contract.
 use Prim.Native.Nat.{_-_}
 use Rattle.path_link.proofs.Threads.{ready-first, ready-second, woven}
 use borrow.Author.Needs.{needs}

@@ -1,3 +1,4 @@
+-- `link_ends` meets its contract.
 use native.Mathlib.Omega.{arith}
 use Prim.Native.Nat.{_-_, _*_}
 use Rattle.path_link.proofs.Mirroring.{count-le, size-3, ranked-3, linked-4}

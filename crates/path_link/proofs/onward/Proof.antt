@@ -1,3 +1,4 @@
+-- `onward` meets its contract.
 use mathlib.Core.Path.{sym, ap, _∙_}
 use lib.ListN.{length}
 use native.Mathlib.Omega.{arith}

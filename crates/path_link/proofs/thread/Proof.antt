@@ -1,3 +1,4 @@
+-- `thread` meets its contract.
 use native.Mathlib.Omega.{arith}
 use mathlib.Core.Path.{refl}
 use Prim.Native.Nat.{_*_, _≤_}

@@ -1,3 +1,4 @@
+-- `draw_pairs` meets its contract.
 use mathlib.Core.Path.{sym}
 use Prim.Native.Nat.{_*_}
 use native.Mathlib.Omega.{arith}

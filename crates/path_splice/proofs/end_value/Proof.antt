@@ -1,3 +1,4 @@
+-- `end_value` meets its contract.
 use mathlib.Core.Path.{sym}
 use Rattle.path_splice.proofs.Tables.{value-none, value-first, value-last, last-side, first-side}
 use borrow.Author.Needs.{needs}

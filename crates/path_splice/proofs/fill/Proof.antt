@@ -1,3 +1,4 @@
+-- `fill` meets its contract.
 use native.Mathlib.Omega.{arith}
 use mathlib.Core.Path.{sym}
 use Prim.Native.Nat.{_-_, _*_}

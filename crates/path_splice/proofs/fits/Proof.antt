@@ -1,3 +1,4 @@
+-- `fits` meets its contract.
 use borrow.Author.Tests.{le-leb, lt-leb}
 use Rattle.path_splice.specs.Pairs.{fits}
 use borrow.Author.Needs.{needs}

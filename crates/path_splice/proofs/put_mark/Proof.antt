@@ -1,3 +1,4 @@
+-- `put_mark` meets its contract.
 use native.Mathlib.Omega.{arith}
 use mathlib.Core.Path.{ap}
 use Prim.Native.Nat.{_-_}

@@ -1,3 +1,4 @@
+-- `span_of` meets its contract.
 use native.Mathlib.Omega.{arith}
 use Rattle.path_splice.proofs.Tables.{spans, spans-none}
 use borrow.Author.Needs.{needs}

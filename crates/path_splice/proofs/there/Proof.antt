@@ -1,3 +1,4 @@
+-- `there` meets its contract.
 use Rattle.path_splice.proofs.Tables.{there-none, there-some}
 use borrow.Author.Needs.{needs}
 use Rattle.path_splice.proofs.there.Statement.{statement}

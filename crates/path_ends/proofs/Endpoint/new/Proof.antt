@@ -1,3 +1,4 @@
+-- `Endpoint::new` meets its contract.
 use native.Mathlib.Omega.{arith}
 use borrow.Author.Needs.{needs}
 use Rattle.path_ends.proofs.Endpoint.new.Statement.{statement}
