@@ -1,4 +1,23 @@
 # make test: all that the gate runs. Its last line is the verdict of `rt ci`, printed once everything else has passed.
-.PHONY: test
+# make compare: ten million inputs to the port and to the original for each call (COUNT and SEED change that).
+# make bench: times of the port beside the original, written to docs/BENCHMARKS.md.
+# make rows: the stored rows that crates/replay is run on, made again.
+.PHONY: test compare bench rows
+CALL ?= all
+COUNT ?= 10000000
+SEED ?= 1
+run = cd rust && cargo run --offline --release --quiet --package compare --bin
+
 test:
 	@./tools/test
+
+compare:
+	@$(run) compare -- $(CALL) $(COUNT) $(SEED)
+
+bench:
+	@mkdir -p docs
+	@($(run) bench) > docs/BENCHMARKS.new && mv docs/BENCHMARKS.new docs/BENCHMARKS.md
+	@cat docs/BENCHMARKS.md
+
+rows:
+	@($(run) rows) > crates/replay/stdin.new && mv crates/replay/stdin.new crates/replay/stdin

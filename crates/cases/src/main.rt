@@ -1,0 +1,173 @@
+// The paper's measured cases that are run and not proved: a line each, the case and what it comes to.
+use libc::STDOUT_FILENO;
+use mesh_section::Plane;
+use mesh_section::Sectioned;
+use mesh_weld::Welded;
+use path_chop::Chopped;
+use vector::Vector;
+
+fn text(s: &[u8]) {
+    io::write_all(STDOUT_FILENO, s);
+}
+
+fn decimal(n: u64) {
+    io::print_decimal(STDOUT_FILENO, n);
+}
+
+// A coordinate of a measured case, which is 0 or 1.
+fn coordinate(x: f64) {
+    if x == 0.0 {
+        text(b" 0");
+    } else if x == 1.0 {
+        text(b" 1");
+    } else {
+        text(b" other");
+    }
+}
+
+// A case and the number it comes to.
+fn line(what: &[u8], n: u64) {
+    text(what);
+    text(b": ");
+    decimal(n);
+    text(b"\n");
+}
+
+fn section_status(r: Sectioned) -> u64 {
+    match r {
+        Sectioned::Wrote {
+            points: _,
+            starts: _,
+        } => 0,
+        Sectioned::Refused(why) => refusal::number(why) as u64,
+    }
+}
+
+fn chop_status(r: Chopped) -> u64 {
+    match r {
+        Chopped::Wrote {
+            points: _,
+            starts: _,
+        } => 0,
+        Chopped::Refused(why) => refusal::number(why) as u64,
+    }
+}
+
+fn weld_status(r: Welded) -> u64 {
+    match r {
+        Welded::Wrote {
+            vertices: _,
+            indices: _,
+        } => 0,
+        Welded::Refused(why) => refusal::number(why) as u64,
+    }
+}
+
+// The plane x = 1 through (1, 0, 0).
+fn plane() -> Plane {
+    Plane {
+        point: Vector::new(1.0, 0.0, 0.0),
+        normal: Vector::new(1.0, 0.0, 0.0),
+    }
+}
+
+// The face (0,0,0) (1,1,0) (2,0,0) cut by it: its two points.
+fn section_through_a_corner() {
+    let vertices = [0.0, 0.0, 0.0, 1.0, 1.0, 0.0, 2.0, 0.0, 0.0];
+    let indices = [0u32, 1, 2];
+    let mut points = [0.0; 6];
+    let mut starts = [0u32; 1];
+    let r = mesh_section::section(
+        &vertices[..],
+        &indices[..],
+        plane(),
+        0.000000001,
+        &mut points[..],
+        &mut starts[..],
+    );
+    line(
+        b"plane x = 1 and a face with a corner on it, status",
+        section_status(r),
+    );
+    text(b"its points:");
+    coordinate(points[0]);
+    coordinate(points[1]);
+    coordinate(points[2]);
+    coordinate(points[3]);
+    coordinate(points[4]);
+    coordinate(points[5]);
+    text(b"\n");
+}
+
+// The most faces that a mesh may have.
+fn section_of_the_most_faces() {
+    let vertices = [0.0; 9];
+    let indices = [0u32; 196608];
+    let mut points = [0.0; 393216];
+    let mut starts = [0u32; 65536];
+    let r = mesh_section::section(
+        &vertices[..],
+        &indices[..],
+        plane(),
+        0.25,
+        &mut points[..],
+        &mut starts[..],
+    );
+    line(b"section of 65,536 faces, status", section_status(r));
+}
+
+// One face more.
+fn section_of_one_face_more() {
+    let vertices = [0.0; 9];
+    let indices = [0u32; 196611];
+    let mut points = [0.0; 6];
+    let mut starts = [0u32; 1];
+    let r = mesh_section::section(
+        &vertices[..],
+        &indices[..],
+        plane(),
+        0.25,
+        &mut points[..],
+        &mut starts[..],
+    );
+    line(b"section of 65,537 faces, status", section_status(r));
+}
+
+// A weld of one face too many.
+fn weld_of_one_face_more() {
+    let coords = [0.0; 589833];
+    let mut scratch = [0u32; 12];
+    let mut vertices = [0.0; 9];
+    let mut indices = [0u32; 3];
+    let r = mesh_weld::weld(
+        &coords[..],
+        &mut scratch[..],
+        &mut vertices[..],
+        &mut indices[..],
+    );
+    line(b"weld of 65,537 faces, status", weld_status(r));
+}
+
+// A chop by a step of 0.
+fn chop_by_nothing() {
+    let points = [0.0, 0.0, 0.0, 1.0, 0.0, 0.0];
+    let starts = [0u32; 1];
+    let mut out_points = [0.0; 6];
+    let mut out_starts = [0u32; 1];
+    let r = path_chop::chop(
+        &points[..],
+        &starts[..],
+        0.0,
+        &mut out_points[..],
+        &mut out_starts[..],
+    );
+    line(b"chop by step 0, status", chop_status(r));
+}
+
+fn main() {
+    section_through_a_corner();
+    section_of_the_most_faces();
+    section_of_one_face_more();
+    weld_of_one_face_more();
+    chop_by_nothing();
+}

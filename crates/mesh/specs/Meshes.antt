@@ -1,0 +1,39 @@
+-- A mesh: vertices as three numbers each, and three indices a face.
+use mathlib.Core.Bool.{Bool, true, _&&_}
+use mathlib.Core.List.{List, [], _∷_}
+use Prim.Native.Nat.{ℕ, _+_, _*_, _/_, _%_}
+use lib.ListN.{getD}
+use lib.Dec.{leb, ltb, eqb}
+use lib.Ieee.{Float, lt}
+use Rattle.refusal.specs.Limits.{mostFaces, mostVertices}
+use Rattle.vector.specs.declared.Vector.{Vector}
+use Rattle.vector.specs.Lengths.{zero64, one64}
+use Rattle.path.specs.Strokes.{pointAt}
+use Rattle.path.specs.Tests.{coordinateGood}
+use Rattle.mesh.specs.declared.Triangle.{Triangle}
+
+-- the vertex of corner k, and the corners of face f
+abbrev pub cornerAt : List Float → List ℕ → ℕ → Vector
+cornerAt vs is k = pointAt vs (getD is k 0)
+
+abbrev pub faceAt : List Float → List ℕ → ℕ → Triangle
+faceAt vs is f = record { v1 = cornerAt vs is (f * 3); v2 = cornerAt vs is (f * 3 + 1); v3 = cornerAt vs is (f * 3 + 2) }
+
+-- ---- the tests, by how many numbers and how many indices there are
+
+unfoldable pub shapedOf : ℕ → ℕ → Bool
+shapedOf numbers indices = eqb (numbers % 3) 0 && eqb (indices % 3) 0
+
+unfoldable pub countedOf : ℕ → ℕ → Bool
+countedOf numbers indices = leb (numbers / 3) mostVertices && leb (indices / 3) mostFaces
+
+unfoldable pub allBelow : ℕ → List ℕ → Bool
+allBelow n [] = true
+allBelow n (i ∷ is) = ltb i n && allBelow n is
+
+unfoldable pub vectorGood : Vector → Bool
+vectorGood v = coordinateGood (v .x) && coordinateGood (v .y) && coordinateGood (v .z)
+
+-- strictly between 0 and 1
+unfoldable pub toleranceGood : Float → Bool
+toleranceGood x = lt zero64 x && lt x one64

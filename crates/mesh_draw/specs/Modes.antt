@@ -1,0 +1,28 @@
+-- The modes and their numbers.
+use mathlib.Core.Bool.{Bool, true, false, cond}
+use mathlib.Core.List.{List, [], _∷_}
+use Prim.Native.Nat.{ℕ, zero, suc}
+use lib.Ieee.{Float, eq}
+use Rattle.refusal.specs.Said.{Said, accepted, refused}
+use Rattle.refusal.specs.declared.Refusal.the-variants.{Number}
+use Rattle.mesh_draw.specs.declared.Mode.{Mode}
+use Rattle.mesh_draw.specs.declared.Mode.the-variants.{Triangles, Polygonal, Silhouette}
+use Rattle.mesh_draw.specs.declared.Moded.{Moded}
+use Rattle.mesh_draw.specs.declared.Moded.the-variants as M
+
+-- the answer as the paper reads it
+abbrev pub modeSaid : Moded → Said Mode
+modeSaid (M.Of m) = accepted (m ∷ [])
+modeSaid (M.Refused r) = refused r
+
+-- 1, 2, 3; 0 is not said, and is triangles
+abbrev pub modeBy : ℕ → Float → Said Mode
+modeBy zero c = accepted (Triangles ∷ [])
+modeBy (suc zero) c = accepted (Triangles ∷ [])
+modeBy (suc (suc zero)) c = accepted (Polygonal ∷ [])
+modeBy (suc (suc (suc zero))) c = accepted (Silhouette c ∷ [])
+modeBy (suc (suc (suc (suc n)))) c = refused Number
+
+-- a cosine is anything but NaN, which alone is not equal to itself
+unfoldable pub modeOf : ℕ → Float → Said Mode
+modeOf n c = cond (eq c c) (modeBy n c) (refused Number)

@@ -1,0 +1,3 @@
+pub mod Hits
+pub mod Faces
+pub mod Unique

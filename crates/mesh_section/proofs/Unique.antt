@@ -1,0 +1,23 @@
+-- What the contract of `section` permits is one answer and one content of everything lent.
+use mathlib.Core.Path.{_≡_, sym, ap}
+use mathlib.Core.List.{List}
+use Prim.Native.Nat.{ℕ}
+use lib.Ieee.{Float}
+use Rattle.refusal.proofs.Unique.{one-refusal, never-both, same-values}
+use Rattle.path.specs.Left.{left}
+use Rattle.path.proofs.Lefts.{one-left}
+use Rattle.mesh_section.specs.declared.Plane.{Plane}
+use Rattle.mesh_section.specs.declared.Sectioned.{Sectioned}
+use Rattle.mesh_section.specs.declared.Sectioned.the-variants.{Wrote, Refused}
+use Rattle.mesh_section.specs.Call.{said, sectionLeft}
+
+told : (r t : Sectioned) → said r ≡ said t → r ≡ t
+told (Wrote p s) (Wrote q u) e = let h = same-values e in cc
+told (Wrote p s) (Refused t) e = absurd (never-both _ t e)
+told (Refused r) (Wrote q u) e = absurd (never-both _ r (sym e))
+told (Refused r) (Refused t) e = ap Refused (one-refusal r t e)
+
+pub one-section : (vs : List Float) (is : List ℕ) (p : Plane) (tolerance : Float) (op : List Float) (os : List ℕ) (r t : Sectioned) (op₁ op₂ : List Float) (os₁ os₂ : List ℕ)
+    → left (said r) op₁ os₁ ≡ sectionLeft vs is p tolerance op os → left (said t) op₂ os₂ ≡ sectionLeft vs is p tolerance op os
+    → (r ≡ t) × (op₁ ≡ op₂) × (os₁ ≡ os₂)
+one-section vs is p tolerance op os r t op₁ op₂ os₁ os₂ e f = one-left said told r t e f

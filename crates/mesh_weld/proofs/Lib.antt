@@ -1,0 +1,11 @@
+pub mod Chains
+pub mod Cells
+pub mod Walks
+pub mod Finds
+pub mod Places
+pub mod Loop
+pub mod Ranks
+pub mod Coarse
+pub mod Calls
+pub mod Cases
+pub mod Unique

@@ -1,0 +1,26 @@
+use mathlib.Core.Path.{_≡_, refl, sym, ap, _∙_, subst}
+use Prim.Native.Nat.{ℕ, _+_, _-_, _*_, _/_, _%_}
+use native.Mathlib.Omega.{arith}
+use Rattle.mesh_weld.specs.Table.{Counted}
+use Rattle.mesh_weld.proofs.Cells.{cube-counted}
+use Rattle.mesh_weld.proofs.Ranks.{found, found-at, found-none}
+use Rattle.mesh_weld.proofs.find.Statement.{statement}
+use Rattle.mesh_weld.proofs.find.Tie as tie
+
+find-x-requires : tie.Need-find-x-requires
+find-x-requires c κs = let s = c .before .before in (s .pre .0, subst Counted (sym (s .pre .1)) (cube-counted (s .args .p)))
+
+returns : tie.Need-returns
+returns c =
+    let s = c .before .before .before .before in
+    let a = s .args in
+    found-at (c .before .find-x .result) (c .if1 .taken) ∙ found (a .vertices .now) (a .p) (a .c) (a .g .count) (c .before .find-x .result) (s .pre .0 .small) (s .pre .1) (subst Counted (sym (s .pre .1)) (cube-counted (a .p))) (c .before .find-x .ensures)
+
+returns-2 : tie.Need-returns-2
+returns-2 c =
+    let s = c .before .before .before .before in
+    let a = s .args in
+    found-none (c .before .find-x .result) (omega arith) ∙ found (a .vertices .now) (a .p) (a .c) (a .g .count) (c .before .find-x .result) (s .pre .0 .small) (s .pre .1) (subst Counted (sym (s .pre .1)) (cube-counted (a .p))) (c .before .find-x .ensures)
+
+pub find-spec : {M : Type 1} → statement M
+find-spec = tie.close (tie.spec find-x-requires returns returns-2)

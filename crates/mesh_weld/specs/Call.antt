@@ -1,0 +1,61 @@
+-- What welding answers and leaves in the lists lent to it.
+use mathlib.Core.Path.{_≡_}
+use mathlib.Core.List.{List, [], _∷_}
+use Prim.Native.Nat.{ℕ, _*_, _/_, _%_, _≤_}
+use lib.ListN.{length, replicate}
+use lib.Seq.{sets}
+use lib.Dec.{leb, eqb}
+use lib.Ieee.{Float}
+use Rattle.refusal.specs.declared.Refusal.the-variants.{Shape, Count, Number, Scratch, Room}
+use Rattle.refusal.specs.declared.Verdict.{Verdict}
+use Rattle.refusal.specs.declared.Verdict.the-variants.{Accepted, Refused}
+use Rattle.refusal.specs.Refusals.{unless}
+use Rattle.refusal.specs.Limits.{mostFaces}
+use Rattle.refusal.specs.Said.{Said, accepted, refused}
+use Rattle.path.specs.Laid.{over}
+use Rattle.path.specs.Tests.{coordinatesGood}
+use Rattle.mesh_weld.specs.declared.Welded.{Welded}
+use Rattle.mesh_weld.specs.declared.Welded.the-variants as W
+use Rattle.mesh_weld.specs.Weld.{weldOf}
+
+-- the answer as the paper reads it
+abbrev pub said : Welded → Said ℕ
+said (W.Wrote vertices indices) = accepted (vertices ∷ indices ∷ [])
+said (W.Refused r) = refused r
+
+-- nine coordinates a face, 12 words of scratch, room for 3 vertices and 3 indices
+unfoldable pub verdictOf : List Float → ℕ → ℕ → ℕ → Verdict
+verdictOf cs words room numbers =
+    unless (eqb (length cs % 9) 0) Shape
+    (unless (leb (length cs / 9) mostFaces) Count
+    (unless (coordinatesGood cs) Number
+    (unless (leb (length cs / 9 * 12) words) Scratch
+    (unless (leb (length cs / 9 * 9) room) Room
+    (unless (leb (length cs / 9 * 3) numbers) Room
+    Accepted)))))
+
+pub record Left : Type 0 where
+  pub answer : Said ℕ
+  pub scratch : List ℕ
+  pub vertices : List Float
+  pub indices : List ℕ
+
+abbrev pub left : Said ℕ → List ℕ → List Float → List ℕ → Left
+left a s vs is = record { answer = a; scratch = s; vertices = vs; indices = is }
+
+-- an accepted call leaves scratch zero and the rest of the output as it was, a refused one all as it was
+unfoldable pub leftBy : Verdict → List Float → List ℕ → List Float → List ℕ → Left
+leftBy Accepted cs s vs is =
+    left (accepted (weldOf cs .count ∷ length (weldOf cs .indices) ∷ [])) (replicate (length s) 0) (over vs (weldOf cs .vertices)) (over is (weldOf cs .indices))
+leftBy (Refused r) cs s vs is = left (refused r) s vs is
+
+unfoldable pub weldLeft : List Float → List ℕ → List Float → List ℕ → Left
+weldLeft cs s vs is = leftBy (verdictOf cs (length s) (length vs) (length is)) cs s vs is
+
+-- what the loop over the corners leaves
+pub record Laid (cs : List Float) (vs : List Float) (is : List ℕ) (vs′ : List Float) (is′ : List ℕ) (r : ℕ) : Type 0 where
+  pub vertices : vs′ ≡ sets vs 0 (weldOf cs .vertices)
+  pub indices : is′ ≡ sets is 0 (weldOf cs .indices)
+  pub count : r ≡ weldOf cs .count
+  pub length-vertices : length (weldOf cs .vertices) ≤ length vs
+  pub length-indices : length (weldOf cs .indices) ≡ length cs / 3

@@ -1,0 +1,4 @@
+pub mod Weld
+pub mod Table
+pub mod Call
+pub mod Cases

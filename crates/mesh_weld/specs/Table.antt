@@ -1,0 +1,136 @@
+-- How the code finds the vertices of a cell: a table of chains in scratch.
+use Rattle.path.specs.Strokes.{pointAt}
+use Rattle.path.specs.Laid.{putPoint}
+use mathlib.Core.Path.{_≡_}
+use mathlib.Core.Bool.{Bool, true, false, cond, _&&_}
+use mathlib.Core.List.{List}
+use Prim.Native.Nat.{ℕ, zero, suc, _+_, _-_, _*_, _/_, _%_, _^_, _<_, _≤_}
+use lib.ListN.{length, getD, set}
+use lib.Dec.{eqb, leb}
+use lib.IntN.{ℤ, pos, negsuc}
+use lib.Ieee.{Float}
+use Rattle.vector.specs.declared.Vector.{Vector}
+use Rattle.mesh_weld.specs.declared.Cube.{Cube}
+use Rattle.mesh_weld.specs.declared.Found.{Found}
+use Rattle.mesh_weld.specs.declared.Found.the-variants.{At, Nothing}
+use Rattle.mesh_weld.specs.Weld.{cell, near, find}
+
+-- cells counted up from a number below all of them
+unfoldable pub count : ℤ → ℕ
+count (pos n) = 2 ^ 54 + n
+count (negsuc n) = 2 ^ 54 - 1 - n
+
+unfoldable pub key : Float → ℕ
+key x = count (cell x)
+
+-- the cell of a point
+abbrev pub cube : ℕ → ℕ → ℕ → Cube
+cube a b c = record { x = a; y = b; z = c }
+
+unfoldable pub cubeOf : Vector → Cube
+cubeOf p = cube (key (p .x)) (key (p .y)) (key (p .z))
+
+pub record Counted (c : Cube) : Type 0 where
+  pub x-low : 0 < c .x
+  pub x-high : c .x < 2 ^ 55
+  pub y-low : 0 < c .y
+  pub y-high : c .y < 2 ^ 55
+  pub z-low : 0 < c .z
+  pub z-high : c .z < 2 ^ 55
+
+-- the bucket of a coarse cell, four cells wide, of m: a sum by a prime, and the share of m that this is of 2 ^ 32
+unfoldable pub foldedOf : ℕ → ℕ
+foldedOf c = (c % 4294967296 + c / 4294967296) % 4294967296
+
+unfoldable pub bucketOf : ℕ → ℕ → ℕ → ℕ → ℕ
+bucketOf x y z m = (foldedOf x * 625341585 + foldedOf y * 461845907 + foldedOf z * 668265263) % 4294967291 * m / 4294967296
+
+unfoldable pub bucketAt : List Float → ℕ → ℕ → ℕ
+bucketAt vs m i = bucketOf (key (pointAt vs i .x) / 4) (key (pointAt vs i .y) / 4) (key (pointAt vs i .z) / 4) m
+
+-- the last of the numbers below k whose bucket is b, plus 1, or 0
+unfoldable pub latest : (ℕ → ℕ) → ℕ → ℕ → ℕ
+latest h b zero = 0
+latest h b (suc k) = let r = latest h b k in cond (eqb (h k) b) (suc k) r
+
+-- m buckets, each with its latest vertex, and then for each vertex the one before it in its bucket
+pub record Table (s : List ℕ) (h : ℕ → ℕ) (m k : ℕ) : Type 0 where
+  pub heads : (b : ℕ) → b < m → getD s b 0 ≡ latest h b k
+  pub links : (v : ℕ) → v < k → getD s (m + v) 0 ≡ latest h (h v) v
+
+-- the place of w among the three cells about x
+unfoldable pub placeOf : ℕ → ℕ → ℕ
+placeOf w x = cond (leb x (w + 1)) (cond (leb w (x + 1)) (w + 1 - x) 100) 100
+
+-- the place of v's cell among the 27 about c: below 27, or else 100 and more
+unfoldable pub rankOf : Cube → Vector → ℕ
+rankOf c v = placeOf (key (v .x)) (c .x) * 9 + placeOf (key (v .y)) (c .y) * 3 + placeOf (key (v .z)) (c .z)
+
+-- what vertex i, the point v, is worth to p: the place and then the number, as one number, below 27 * 2 ^ 20 where the vertex is found
+unfoldable pub scoreOf : Vector → Cube → Vector → ℕ → ℕ
+scoreOf p c v i = cond (near p v) (rankOf c v * 1048576 + i) 28311552
+
+unfoldable pub scoreAt : List Float → Vector → Cube → ℕ → ℕ
+scoreAt vs p c i = scoreOf p c (pointAt vs i) i
+
+pub record Lesser (a b r : ℕ) : Type 0 where
+  pub left : r ≤ a
+  pub right : r ≤ b
+  pub to : (c : ℕ) → c ≤ a → c ≤ b → c ≤ r
+
+-- r is the least of first and of f over some of the numbers below k, those of q at least
+pub record Least (q : ℕ → Type 0) (f : ℕ → ℕ) (k first r : ℕ) : Type 0 where
+  pub below : r ≤ first
+  pub all : (i : ℕ) → i < k → q i → r ≤ f i
+  pub to : (c : ℕ) → c ≤ first → ((i : ℕ) → i < k → c ≤ f i) → c ≤ r
+
+pub record InBucket (vs : List Float) (m b i : ℕ) : Type 0 where
+  pub is : bucketAt vs m i ≡ b
+
+-- at most a cell from x
+pub record Beside (x w : ℕ) : Type 0 where
+  pub low : x ≤ w + 1
+  pub high : w ≤ x + 1
+
+pub record InColumn (vs : List Float) (c : Cube) (a b i : ℕ) : Type 0 where
+  pub x : key (pointAt vs i .x) / 4 ≡ a
+  pub y : key (pointAt vs i .y) / 4 ≡ b
+  pub z : Beside (c .z) (key (pointAt vs i .z))
+
+pub record InLayer (vs : List Float) (c : Cube) (a i : ℕ) : Type 0 where
+  pub x : key (pointAt vs i .x) / 4 ≡ a
+  pub y : Beside (c .y) (key (pointAt vs i .y))
+  pub z : Beside (c .z) (key (pointAt vs i .z))
+
+pub record About (vs : List Float) (c : Cube) (i : ℕ) : Type 0 where
+  pub x : Beside (c .x) (key (pointAt vs i .x))
+  pub y : Beside (c .y) (key (pointAt vs i .y))
+  pub z : Beside (c .z) (key (pointAt vs i .z))
+
+-- the table of the k vertices in vs, and room for what is asked of it
+pub record Ready (s : List ℕ) (vs : List Float) (m k : ℕ) : Type 0 where
+  pub table : Table s (bucketAt vs m) m k
+  pub room : m + k ≤ length s
+  pub points : k * 3 ≤ length vs
+  pub some : 0 < m
+  pub few : m < 2 ^ 20
+  pub small : k ≤ 2 ^ 20
+
+-- what one corner changes: the vertices, its number, the count
+abbrev pub grown : List Float → ℕ → Vector → Found → List Float
+grown vs k p (At i) = vs
+grown vs k p Nothing = putPoint vs k p
+
+abbrev pub numberOf : ℕ → Found → ℕ
+numberOf k (At i) = i
+numberOf k Nothing = k
+
+abbrev pub moreOf : ℕ → Found → ℕ
+moreOf k (At i) = k
+moreOf k Nothing = k + 1
+
+pub record Placed (vs : List Float) (is : List ℕ) (m k i : ℕ) (p : Vector) (s′ : List ℕ) (vs′ : List Float) (is′ : List ℕ) (r : ℕ) : Type 0 where
+  pub vertices : vs′ ≡ grown vs k p (find vs k p)
+  pub indices : is′ ≡ set is i (numberOf k (find vs k p))
+  pub count : r ≡ moreOf k (find vs k p)
+  pub table : Table s′ (bucketAt vs′ m) m r

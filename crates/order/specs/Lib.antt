@@ -1,0 +1,4 @@
+pub mod Regions
+pub mod Order
+pub mod Digits
+pub mod Sort

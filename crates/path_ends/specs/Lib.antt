@@ -1,0 +1,3 @@
+pub mod Splice
+pub mod Totals
+pub mod Demand

@@ -1,0 +1,9 @@
+pub mod Picking
+pub mod Matching
+pub mod Mirrors
+pub mod Running
+pub mod Lives
+pub mod Mirroring
+pub mod Stepping
+pub mod Loop
+pub mod Threads

@@ -1,0 +1,51 @@
+-- `onward` meets its contract.
+use mathlib.Core.Path.{sym, ap, _∙_}
+use lib.ListN.{length}
+use native.Mathlib.Omega.{arith}
+use borrow.Author.Needs.{needs}
+use Rattle.path_ends.proofs.Ends.{opp-reach}
+use Rattle.path_link.specs.Links.{wordOf}
+use Rattle.path_link.proofs.Stepping.{on-none, on-seen, on-go}
+use Rattle.path_link.proofs.onward.Statement.{statement}
+use Rattle.path_link.proofs.onward.Tie as tie
+
+opposite-requires : tie.Need-opposite-requires
+opposite-requires c κs = search needs
+
+mul-link-in : tie.Need-mul-link-in
+mul-link-in c = search needs
+
+shared-slice-read-link-in : tie.Need-shared-slice-read-link-in
+shared-slice-read-link-in c =
+    let z = c .before .before .before .before in
+    rw (c .before .opposite .ensures) (opp-reach (z .args .e .0) (length (z .args .links .now)) (length (z .args .todo .now)) (z .pre .0) (z .pre .1 .1 .0))
+
+link-in-requires : tie.Need-link-in-requires
+link-in-requires c κs = search needs
+
+enum-told : tie.Need-enum-told
+enum-told c = search needs
+
+returns : tie.Need-returns
+returns c = on-none (c .before .before .before .before .before .before .before .args .links .now) (c .before .before .before .before .before .before .before .args .todo .now) (c .before .before .before .before .opposite .result .0) (c .before .before .before .before .before .before .before .args .e .0) (c .before .before .before .before .opposite .ensures) (sym (c .before .before .link-in .ensures) ∙ ap wordOf (c .enum-told .given .1))
+
+enum-known-f : tie.Need-enum-known-f
+enum-known-f c = search needs
+
+path-id-requires : tie.Need-path-id-requires
+path-id-requires c κs = search needs
+
+mul-if1 : tie.Need-mul-if1
+mul-if1 c = omega (arith, c .path-id .ensures, sym (c .before .before .before .before .link-in .ensures) ∙ ap wordOf (c .before .before .f .given .1), c .before .before .before .before .before .before .before .before .before .pre .1 .1 .1 (c .before .before .before .before .before .before .opposite .result .0), c .before .before .before .before .before .before .before .before .before .pre .0, c .before .before .before .before .before .before .before .before .before .pre .1 .0)
+
+shared-slice-read-if1 : tie.Need-shared-slice-read-if1
+shared-slice-read-if1 c = omega (arith, c .before .path-id .ensures, sym (c .before .before .before .before .before .link-in .ensures) ∙ ap wordOf (c .before .before .before .f .given .1), c .before .before .before .before .before .before .before .before .before .before .pre .1 .1 .1 (c .before .before .before .before .before .before .before .opposite .result .0), c .before .before .before .before .before .before .before .before .before .before .pre .0)
+
+returns-2 : tie.Need-returns-2
+returns-2 c = on-seen (c .before .before .before .before .before .before .before .before .before .before .before .args .links .now) (c .before .before .before .before .before .before .before .before .before .before .before .args .todo .now) (c .before .before .before .before .before .before .before .before .opposite .result .0) (c .before .before .before .before .before .before .before .before .before .before .before .args .e .0) (c .before .before .before .before .before .before .before .before .opposite .ensures) _ (sym (c .before .before .before .before .before .before .link-in .ensures) ∙ ap wordOf (c .before .before .before .before .f .given .1)) (rw (c .before .before .path-id .ensures) at (c .if1 .taken))
+
+returns-3 : tie.Need-returns-3
+returns-3 c = on-go (c .before .before .before .before .before .before .before .before .before .before .before .args .links .now) (c .before .before .before .before .before .before .before .before .before .before .before .args .todo .now) (c .before .before .before .before .before .before .before .before .opposite .result .0) (c .before .before .before .before .before .before .before .before .before .before .before .args .e .0) (c .before .before .before .before .before .before .before .before .opposite .ensures) _ (sym (c .before .before .before .before .before .before .link-in .ensures) ∙ ap wordOf (c .before .before .before .before .f .given .1)) (rw (c .before .before .path-id .ensures) at (c .if1 .left))
+
+pub onward-spec : {M : Type 1} → statement M
+onward-spec = tie.close (tie.spec opposite-requires mul-link-in shared-slice-read-link-in link-in-requires enum-told returns enum-known-f path-id-requires mul-if1 shared-slice-read-if1 returns-2 returns-3)

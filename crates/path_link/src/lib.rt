@@ -1,0 +1,309 @@
+// Links between the ends of strokes, and the walk along them, in words of scratch.
+// With n strokes, the values of their ends lie from word 0, the order from 2 n, the links from 4 n, and what is to do from 6 n up to 7 n.
+use order::clear;
+use order::sort_words;
+use order::word_at;
+use path_ends::Endpoint;
+use refusal::MOST_STROKES;
+ghost use mathlib.Core.Path.{_≡_};
+ghost use mathlib.Core.Bool.{not};
+ghost use mathlib.Core.Logic.{_≢_};
+ghost use Prim.Native.Nat.{ℕ, _+_, _-_, _*_, _/_, _<_, _≤_};
+ghost use lib.ListN.{length, getD};
+ghost use Rattle.order.specs.Regions.{region, Into, Into2};
+ghost use Rattle.path_ends.specs.Splice.{isZero, opposite as oppositeOf, onward as onwardOf, pass as passOf};
+ghost use Rattle.path_link.specs.Links.{wordOf};
+ghost use Rattle.path_link.specs.Ends.{Lived};
+ghost use Rattle.path_link.specs.Layout.{LinksIn};
+ghost use Rattle.path_link.specs.Runs.{Reach, Pair, Mirrored, Ranked, Linked};
+ghost use Rattle.path_link.specs.Walk.{linkIn, Within, RunIs, Drew, entry, begun, Ready, Woven, threaded, threadIn};
+ghost use Rattle.refusal.specs.Limits.{mostStrokes};
+
+// What an end is linked with: another end, or none.
+pub enum Link {
+    To(Endpoint),
+    Free,
+}
+
+// The link that a word says.
+fn link_in(word: u32) -> Link
+    ensures { λ r. ⌜ wordOf r ≡ word ⌝ }
+{
+    if word == 0 {
+        return Link::Free;
+    }
+    Link::To(Endpoint(word as usize - 1))
+}
+
+// The word that says a link.
+fn word_of(l: Link) -> u32
+    requires { ⌜ wordOf l ≤ 2 * mostStrokes ⌝ }
+    ensures { λ r. ⌜ r ≡ wordOf l ⌝ }
+{
+    match l {
+        Link::To(f) => {
+            return (f.0 + 1) as u32;
+        }
+        Link::Free => {
+            return 0;
+        }
+    }
+}
+
+// Writes the ends of the strokes that are there to the order, and answers how many there are.
+fn live_ends(s: &mut [u32], n: usize) -> usize
+    requires { ⌜ (7 * n ≤ length (now s)) × (n ≤ mostStrokes) ⌝ }
+    ensures { λ r. ⌜ Into (now (s .entry)) (now (s .exit)) (2 * n) (2 * n) (λ a. Lived (region (now (s .entry)) (6 * n) n) (region (now (s .entry)) (2 * n) (2 * n)) a r) ⌝ }
+{
+    let mut e: usize = 0;
+    let mut k: usize = 0;
+    while e < 2 * n {
+        if s[6 * n + e / 2] == 0 {
+            e += 1;
+            continue;
+        }
+        s[2 * n + k] = e as u32;
+        k += 1;
+        e += 1;
+    }
+    k
+}
+
+// Where the run of place p ends.
+fn run_end(values: &[u32], s: &[u32], p: usize) -> usize
+    requires { ⌜ p < length (now s) ⌝ }
+    ensures { λ r. ⌜ Reach (now (values .entry)) (now (s .entry)) p r ⌝ }
+{
+    let v = word_at(values, s[p]);
+    let mut q = p + 1;
+    while q < s.len() {
+        let w = word_at(values, s[q]);
+        if w != v {
+            return q;
+        }
+        q += 1;
+    }
+    q
+}
+
+// Where the run of place p in the order ends.
+fn reach(s: &[u32], n: usize, c: usize, p: usize) -> usize
+    requires { ⌜ (7 * n ≤ length (now s)) × (c ≤ 2 * n) × (p < c) × (n ≤ mostStrokes) ⌝ }
+    ensures { λ r. ⌜ Reach (region (now (s .entry)) 0 (2 * n)) (region (now (s .entry)) (2 * n) c) p r ⌝ }
+{
+    let m = 2 * n;
+    let h = m + c;
+    run_end(&s[..m], &s[m..h], p)
+}
+
+// The link of e, whose mirror is f: none where both are of one stroke.
+fn mirror_link(e: Endpoint, f: Endpoint) -> Link
+    ensures { λ r. ⌜ Pair (e .0) (f .0) (wordOf r) ⌝ }
+    ensures { λ r. ⌜ wordOf r ≤ f .0 + 1 ⌝ }
+{
+    if e.path_id() == f.path_id() {
+        return Link::Free;
+    }
+    Link::To(f)
+}
+
+// Links the ends of the run from p to q.
+fn mirror_run(s: &mut [u32], n: usize, c: usize, p: usize, q: usize)
+    requires { ⌜ (7 * n ≤ length (now s)) × (n ≤ mostStrokes) × (c ≤ 2 * n) × (p < q) × (q ≤ c) ⌝ }
+    requires { ⌜ ((x : ℕ) → x < c → getD (region (now s) (2 * n) c) x 0 < 2 * n) ⌝ }
+    requires { ⌜ ((x y : ℕ) → p ≤ x → x < y → y < q → getD (region (now s) (2 * n) c) x 0 ≢ getD (region (now s) (2 * n) c) y 0) ⌝ }
+    ensures { λ _. ⌜ Into (now (s .entry)) (now (s .exit)) (4 * n) (2 * n) (λ ls. Mirrored (region (now (s .entry)) (2 * n) c) (region (now (s .entry)) (4 * n) (2 * n)) ls p q q) ⌝ }
+{
+    let mut x = p;
+    while x < q {
+        let e = s[2 * n + x];
+        let f = s[2 * n + (p + q - 1 - x)];
+        let l = mirror_link(Endpoint(e as usize), Endpoint(f as usize));
+        let i = 4 * n + e as usize;
+        s[i] = word_of(l);
+        x += 1;
+    }
+}
+
+// Links the ends of every run.
+fn link_runs(s: &mut [u32], n: usize, c: usize)
+    requires { ⌜ (7 * n ≤ length (now s)) × (n ≤ mostStrokes) × (c ≤ 2 * n) ⌝ }
+    requires { ⌜ Ranked (region (now s) 0 (2 * n)) (region (now s) (2 * n) c) (2 * n) ⌝ }
+    ensures { λ _. ⌜ Into (now (s .entry)) (now (s .exit)) (4 * n) (2 * n) (λ ls. Linked (region (now (s .entry)) 0 (2 * n)) (region (now (s .entry)) (2 * n) c) (region (now (s .entry)) (4 * n) (2 * n)) ls c) ⌝ }
+{
+    let mut p: usize = 0;
+    while p < c {
+        let q = reach(s, n, c, p);
+        mirror_run(s, n, c, p, q);
+        p = q;
+    }
+}
+
+// Links all ends that can be linked.
+fn link_ends(s: &mut [u32], n: usize)
+    requires { ⌜ (7 * n ≤ length (now s)) × (n ≤ mostStrokes) ⌝ }
+    ensures { λ _. ⌜ LinksIn (now (s .entry)) (now (s .exit)) n ⌝ }
+{
+    let c = live_ends(s, n);
+    let m = 2 * n;
+    let l = 4 * n;
+    let h = 6 * n;
+    sort_words(s, 0, m, m, l, c);
+    clear(&mut s[l..h]);
+    link_runs(s, n, c);
+}
+
+// Where the walk goes on to from the stroke entered at e: the end linked with its other end, unless that stroke is drawn.
+fn onward(links: &[u32], todo: &[u32], e: Endpoint) -> Link
+    requires { do ⌜ (← ⟦links.len()⟧) ≡ 2 * (← ⟦todo.len()⟧) ⌝ }
+    requires { do ⌜ (← ⟦links.len()⟧) ≤ 2 * mostStrokes ⌝ }
+    requires { do ⌜ e .0 < (← ⟦links.len()⟧) ⌝ }
+    requires { ⌜ Within (now links) ⌝ }
+    ensures { λ r. ⌜ wordOf r ≡ onwardOf (now (todo .entry)) (getD (now (links .entry)) (oppositeOf (e .0)) 0) ⌝ }
+{
+    let o = e.opposite();
+    let at = o.0;
+    match link_in(links[at]) {
+        Link::Free => {
+            return Link::Free;
+        }
+        Link::To(f) => {
+            let i = f.path_id();
+            if todo[i] == 0 {
+                return Link::Free;
+            }
+            return Link::To(f);
+        }
+    }
+}
+
+// The same, in the strokes' words.
+fn go_on(s: &[u32], n: usize, e: Endpoint) -> Link
+    requires { ⌜ (7 * n ≤ length (now s)) × (n ≤ mostStrokes) × (e .0 < 2 * n) ⌝ }
+    requires { ⌜ Within (region (now s) (4 * n) (2 * n)) ⌝ }
+    ensures { λ r. ⌜ wordOf r ≡ onwardOf (region (now (s .entry)) (6 * n) n) (getD (region (now (s .entry)) (4 * n) (2 * n)) (oppositeOf (e .0)) 0) ⌝ }
+{
+    let l = 4 * n;
+    let t = 6 * n;
+    let h = 7 * n;
+    onward(&s[l..t], &s[t..h], e)
+}
+
+// Walks one chain from the end start, and writes the ends at which it enters, the first one marked.
+fn run(s: &mut [u32], n: usize, at: usize, start: Endpoint) -> usize
+    requires { ⌜ Ready (now s) n at ⌝ }
+    requires { ⌜ (start .0 < 2 * n) × (getD (region (now s) (6 * n) n) (start .0 / 2) 0 ≢ 0) ⌝ }
+    ensures { λ r. ⌜ Into2 (now (s .entry)) (now (s .exit)) (6 * n) n (2 * n) n
+        (λ t o. RunIs (region (now (s .entry)) (4 * n) (2 * n)) (region (now (s .entry)) (6 * n) n) (region (now (s .entry)) (2 * n) n) at (start .0) t o r) ⌝ }
+{
+    let mut e = start;
+    let mut k = at;
+    let mut f: usize = 1;
+    loop {
+        let i = e.path_id();
+        s[6 * n + i] = 0;
+        s[2 * n + k] = (e.0 + e.0 + f) as u32;
+        k += 1;
+        f = 0;
+        match go_on(s, n, e) {
+            Link::To(g) => {
+                e = g;
+            }
+            Link::Free => {
+                return k;
+            }
+        }
+    }
+}
+
+// Whether end e is linked.
+fn is_connected(s: &[u32], n: usize, e: Endpoint) -> bool
+    requires { ⌜ (7 * n ≤ length (now s)) × (n ≤ mostStrokes) × (e .0 < 2 * n) ⌝ }
+    ensures { λ r. ⌜ r ≡ not (isZero (linkIn (region (now (s .entry)) (4 * n) (2 * n)) (e .0))) ⌝ }
+{
+    let at = e.0;
+    s[4 * n + at] != 0
+}
+
+// Where stroke i is entered: a free end, the first before the last, or none; or, of rings, the last.
+fn enter(s: &[u32], n: usize, i: usize, rings: bool) -> Link
+    requires { ⌜ (7 * n ≤ length (now s)) × (n ≤ mostStrokes) × (i < n) ⌝ }
+    ensures { λ r. ⌜ wordOf r ≡ entry (linkIn (region (now (s .entry)) (4 * n) (2 * n))) rings i ⌝ }
+{
+    let last = Endpoint::new(i as u32, true);
+    if rings {
+        return Link::To(last);
+    }
+    let first = Endpoint::new(i as u32, false);
+    if !is_connected(s, n, first) {
+        return Link::To(first);
+    }
+    if !is_connected(s, n, last) {
+        return Link::To(last);
+    }
+    Link::Free
+}
+
+// Walks the chain that begins at stroke i, if it is still to do and one begins there.
+fn visit(s: &mut [u32], n: usize, at: usize, i: usize, rings: bool) -> usize
+    requires { ⌜ Ready (now s) n at ⌝ }
+    requires { ⌜ i < n ⌝ }
+    ensures { λ r. ⌜ Into2 (now (s .entry)) (now (s .exit)) (6 * n) n (2 * n) n
+        (λ t o. Drew (begun (region (now (s .entry)) (4 * n) (2 * n)) n (region (now (s .entry)) (6 * n) n) rings i) (region (now (s .entry)) (2 * n) n) at t o r) ⌝ }
+{
+    if s[6 * n + i] == 0 {
+        return at;
+    }
+    match enter(s, n, i, rings) {
+        Link::To(e) => {
+            return run(s, n, at, e);
+        }
+        Link::Free => {
+            return at;
+        }
+    }
+}
+
+// Walks the chains that begin at strokes in their order.
+fn walk_pass(s: &mut [u32], n: usize, at: usize, rings: bool) -> usize
+    requires { ⌜ Ready (now s) n at ⌝ }
+    ensures { λ r. ⌜ Into2 (now (s .entry)) (now (s .exit)) (6 * n) n (2 * n) n
+        (λ t o. Drew (passOf (entry (linkIn (region (now (s .entry)) (4 * n) (2 * n))) rings) (linkIn (region (now (s .entry)) (4 * n) (2 * n))) n n 0 (region (now (s .entry)) (6 * n) n)) (region (now (s .entry)) (2 * n) n) at t o r) ⌝ }
+{
+    let mut i: usize = 0;
+    let mut k = at;
+    while i < n {
+        k = visit(s, n, k, i, rings);
+        i += 1;
+    }
+    k
+}
+
+// Links the n strokes, and walks all chains: first those with a free end, then the rings.
+fn link_and_walk(s: &mut [u32], n: usize) -> usize
+    requires { ⌜ (7 * n ≤ length (now s)) × (n ≤ mostStrokes) ⌝ }
+    ensures { λ r. ⌜ Woven (now (s .entry)) (now (s .exit)) n r ⌝ }
+{
+    link_ends(s, n);
+    let k = walk_pass(s, n, 0, false);
+    walk_pass(s, n, k, true)
+}
+
+// Threads n strokes whose ends' values and what is to do lie in s: leaves the order in which their chains enter them from word 2 n on,
+// an end times two for each, plus 1 for a chain's first, and answers how many. The words after it up to 7 n are zero.
+pub fn thread(s: &mut [u32], n: usize) -> usize
+    ensures { λ r. ⌜ threaded r (now (s .exit)) ≡ threadIn (now (s .entry)) n ⌝ }
+    ensures { λ r. ⌜ r ≤ n ⌝ }
+{
+    if MOST_STROKES < n {
+        return 0;
+    }
+    if s.len() < 7 * n {
+        return 0;
+    }
+    let c = link_and_walk(s, n);
+    let a = 2 * n + c;
+    let e = 7 * n;
+    clear(&mut s[a..e]);
+    c
+}

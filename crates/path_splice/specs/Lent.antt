@@ -1,0 +1,54 @@
+-- The call: when it is refused, what it answers, and what it leaves in what it was lent.
+-- Assumes nothing.
+use mathlib.Core.Bool.{_&&_}
+use mathlib.Core.List.{List, [], _∷_}
+use Prim.Native.Nat.{ℕ, _*_}
+use lib.ListN.{length, replicate}
+use lib.Dec.{leb, eqb}
+use Rattle.refusal.specs.declared.Refusal.the-variants.{Shape, Count, Scratch, Room}
+use Rattle.refusal.specs.declared.Verdict.{Verdict}
+use Rattle.refusal.specs.declared.Verdict.the-variants.{Accepted, Refused}
+use Rattle.refusal.specs.Refusals.{unless}
+use Rattle.refusal.specs.Said.{Said, accepted, refused}
+use Rattle.path.specs.Strokes.{goodStarts}
+use Rattle.path.specs.Laid.{over, joined, startsFrom}
+use Rattle.path.specs.Tests.{countedOf}
+use Rattle.path_ends.specs.Splice.{splice}
+use Rattle.path_splice.specs.declared.Spliced.{Spliced}
+use Rattle.path_splice.specs.declared.Spliced.the-variants as spliced
+use Rattle.path_splice.specs.Text.{strokesIn}
+
+-- the lowest refusal that applies: a table of starts, the limits, 8 words of scratch a stroke, room for as many points and starts as the input
+unfoldable pub verdictOf : List ℕ → List ℕ → ℕ → ℕ → ℕ → Verdict
+verdictOf ps ss words room starts =
+    unless (goodStarts (length ps) ss) Shape
+    (unless (countedOf (length ps) (length ss)) Count
+    (unless (leb (8 * length ss) words) Scratch
+    (unless (leb (length ps) room && leb (length ss) starts) Room
+    Accepted)))
+
+-- the answer's number and values: points and starts written
+abbrev pub said : Spliced → Said ℕ
+said (spliced.Wrote p q) = accepted (p ∷ q ∷ [])
+said (spliced.Refused r) = refused r
+
+pub record Left : Type 0 where
+  pub answer : Said ℕ
+  pub scratch : List ℕ
+  pub points : List ℕ
+  pub starts : List ℕ
+
+abbrev pub left : Said ℕ → List ℕ → List ℕ → List ℕ → Left
+left a s op os = record { answer = a; scratch = s; points = op; starts = os }
+
+-- strokes written: their points in a row, the start of each, and the rest of both lists as it was
+unfoldable pub laid : List (List ℕ) → List ℕ → List ℕ → List ℕ → Left
+laid ss s op os = left (accepted (length (joined ss) ∷ length ss ∷ [])) s (over op (joined ss)) (over os (startsFrom 0 ss))
+
+-- accepted: the spliced strokes written, and scratch all zero; refused: all as it was
+unfoldable pub leftBy : Verdict → List (List ℕ) → List ℕ → List ℕ → List ℕ → Left
+leftBy Accepted ss s op os = laid ss (replicate (length s) 0) op os
+leftBy (Refused r) ss s op os = left (refused r) s op os
+
+unfoldable pub spliceLeft : List ℕ → List ℕ → List ℕ → List ℕ → List ℕ → Left
+spliceLeft ps ss s op os = leftBy (verdictOf ps ss (length s) (length op) (length os)) (splice 0 eqb (strokesIn ps ss)) s op os

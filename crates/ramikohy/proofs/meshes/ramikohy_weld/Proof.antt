@@ -1,0 +1,65 @@
+-- `ramikohy_weld` meets its contract, by that of `weld`.
+use mathlib.Core.Path.{ap}
+use denote.Ref.{now}
+use Rattle.mesh_weld.specs.Call.{said}
+use Rattle.ramikohy.proofs.Calls.{welded, refuse-weld}
+use borrow.Author.Needs.{needs}
+use Rattle.ramikohy.proofs.meshes.ramikohy_weld.Statement.{statement}
+use Rattle.ramikohy.proofs.meshes.ramikohy_weld.Tie as tie
+
+weld-requires : tie.Need-weld-requires
+weld-requires c κs = search needs
+
+enum-known-v : tie.Need-enum-known-v
+enum-known-v c = search needs
+
+enum-known-why : tie.Need-enum-known-why
+enum-known-why c = search needs
+
+number-requires : tie.Need-number-requires
+number-requires c κs = search needs
+
+same-length : tie.Need-same-length
+same-length c = search needs
+
+same-length-2 : tie.Need-same-length-2
+same-length-2 c = search needs
+
+same-length-3 : tie.Need-same-length-3
+same-length-3 c = search needs
+
+returns : tie.Need-returns
+returns c =
+    let w = c .before .before .before .before .before .before .before .before .before .weld in
+    welded _ (said (w .result)) _ _ _ _ (w .ensures) _ _ _ (ap said (c .before .v .given .1))
+
+same-length-4 : tie.Need-same-length-4
+same-length-4 c = search needs
+
+same-length-5 : tie.Need-same-length-5
+same-length-5 c = search needs
+
+same-length-6 : tie.Need-same-length-6
+same-length-6 c = search needs
+
+returns-2 : tie.Need-returns-2
+returns-2 c =
+    let w = c .before .before .before .before .before .before .before .before .before .before .weld in
+    refuse-weld _ (said (w .result)) _ _ _ _ (w .ensures) _ (c .before .before .why .given .0 .0) (c .number .ensures) (ap said (c .before .before .why .given .1))
+
+pub ramikohy-weld-spec : {M : Type 1} → statement M
+ramikohy-weld-spec =
+    tie.close
+    (tie.spec
+    weld-requires
+    enum-known-v
+    enum-known-why
+    number-requires
+    same-length
+    same-length-2
+    same-length-3
+    returns
+    same-length-4
+    same-length-5
+    same-length-6
+    returns-2)

@@ -1,0 +1,74 @@
+// The calls on meshes for C and Rust. The result is the status, 0 or the refusal's number; the counts go out
+// through the last parameters, which a refusal leaves as they were.
+use crate::point;
+use mesh_section::Plane;
+use mesh_section::Sectioned;
+use mesh_weld::Welded;
+ghost use mathlib.Core.Path.{_≡_};
+ghost use mathlib.Core.List.{[], _∷_};
+ghost use Rattle.mesh_weld.specs.Call.{weldLeft};
+ghost use Rattle.mesh_section.specs.Call.{sectionLeft};
+ghost use Rattle.ramikohy.specs.Points.{pointOf};
+ghost use Rattle.ramikohy.specs.Calls.{strokes, strokesBy, weld, weldBy};
+
+// Welds the corners of faces.
+#[no_mangle]
+pub extern "C" fn ramikohy_weld(
+    coords: &[f64],
+    scratch: &mut [u32],
+    vertices: &mut [f64],
+    indices: &mut [u32],
+    vertex_count: &mut usize,
+    index_count: &mut usize,
+) -> u32
+    ensures { λ r. ⌜ weld r (now («vertex_count» .exit) ∷ now («index_count» .exit) ∷ []) (now (scratch .exit)) (now (vertices .exit)) (now (indices .exit))
+        ≡ weldBy (weldLeft (now (coords .entry)) (now (scratch .entry)) (now (vertices .entry)) (now (indices .entry)))
+        (now («vertex_count» .entry) ∷ now («index_count» .entry) ∷ []) ⌝ }
+{
+    match mesh_weld::weld(coords, scratch, vertices, indices) {
+        Welded::Wrote {
+            vertices: v,
+            indices: i,
+        } => {
+            *vertex_count = v;
+            *index_count = i;
+            0
+        }
+        Welded::Refused(why) => refusal::number(why),
+    }
+}
+
+// Cuts the faces of a mesh by a plane.
+#[no_mangle]
+pub extern "C" fn ramikohy_section(
+    vertices: &[f64],
+    indices: &[u32],
+    plane_point: &[f64; 3],
+    plane_normal: &[f64; 3],
+    tolerance: f64,
+    out_points: &mut [f64],
+    out_starts: &mut [u32],
+    point_count: &mut usize,
+    start_count: &mut usize,
+) -> u32
+    ensures { λ r. ⌜ strokes r (now («point_count» .exit) ∷ now («start_count» .exit) ∷ []) (now («out_points» .exit)) (now («out_starts» .exit))
+        ≡ strokesBy
+        (sectionLeft (now (vertices .entry)) (now (indices .entry)) (record { point = pointOf (now («plane_point» .entry)); normal = pointOf (now («plane_normal» .entry)) }) tolerance (now («out_points» .entry)) (now («out_starts» .entry)))
+        (now («point_count» .entry) ∷ now («start_count» .entry) ∷ []) ⌝ }
+{
+    let plane = Plane {
+        point: point(plane_point),
+        normal: point(plane_normal),
+    };
+    match mesh_section::section(vertices, indices, plane, tolerance, out_points, out_starts) {
+        Sectioned::Wrote {
+            points: p,
+            starts: s,
+        } => {
+            *point_count = p;
+            *start_count = s;
+            0
+        }
+        Sectioned::Refused(why) => refusal::number(why),
+    }
+}

@@ -1,0 +1,305 @@
+// Works the stored rows out by the crate `vector`, and counts those whose answer is another.
+//
+// A row is words of hexadecimal digits with a space between: the function's number, the status, the operands' bits and, where the
+// status is 0, the values' bits. Two NaN count as equal. A row that is no row of a function counts as one that differs.
+use libc::STDIN_FILENO;
+use libc::STDOUT_FILENO;
+use vector::Unit;
+use vector::Vector;
+use vector::matrix::Matrix;
+use vector::number::Root;
+use vector::number::Whole;
+ghost use Prim.Native.Nat.{_≤_, _<_};
+
+// The page holds the words of the row that is being read, and at these places how many of them are whole, and whether a byte
+// came that belongs to no row.
+const WORDS: usize = 28;
+
+const WHOLE: usize = 30;
+
+const SPOILT: usize = 31;
+
+// The status of a vector that has no direction.
+const NONE: u64 = 255;
+
+// ---- the answers
+
+// The f64 of a pattern. Every NaN is one.
+fn real(bits: u64) -> f64 {
+    if bits % 0x8000_0000_0000_0000 > 0x7ff0_0000_0000_0000 {
+        return 0.0 / 0.0;
+    }
+    f64::from_bits(bits)
+}
+
+// Whether x has this pattern, or both are NaN.
+fn same(x: f64, bits: u64) -> bool {
+    if x == x {
+        return f64::to_bits(x) == bits;
+    }
+    let y = real(bits);
+    y != y
+}
+
+// The whole number that a pattern is.
+fn signed(bits: u64) -> i64 {
+    if bits < 0x8000_0000_0000_0000 {
+        return bits as i64;
+    }
+    !((0xffff_ffff_ffff_ffff - bits) as i64)
+}
+
+fn point(page: &[u64; 32], at: usize) -> Vector
+    requires { ⌜ at < 30 ⌝ }
+{
+    Vector {
+        x: real(page[at]),
+        y: real(page[at + 1]),
+        z: real(page[at + 2]),
+    }
+}
+
+// Whether the row has the words that end before `end`, and this status.
+fn ends(page: &[u64; 32], end: u64, status: u64) -> bool {
+    page[WHOLE] == end && page[1] == status
+}
+
+fn number_is(page: &[u64; 32], at: usize, x: f64) -> bool
+    requires { ⌜ at < 30 ⌝ }
+{
+    ends(page, at as u64 + 1, 0) && same(x, page[at])
+}
+
+fn point_is(page: &[u64; 32], at: usize, v: Vector) -> bool
+    requires { ⌜ at < 30 ⌝ }
+{
+    ends(page, at as u64 + 3, 0)
+        && same(v.x, page[at])
+        && same(v.y, page[at + 1])
+        && same(v.z, page[at + 2])
+}
+
+fn root_is(page: &[u64; 32], root: Root) -> bool {
+    match root {
+        Root::Of(y) => number_is(page, 3, y),
+        Root::Refused(why) => ends(page, 3, refusal::number(why) as u64),
+    }
+}
+
+fn whole_is(page: &[u64; 32], whole: Whole) -> bool {
+    match whole {
+        Whole::Of(z) => ends(page, 4, 0) && z == signed(page[3]),
+        Whole::Refused(why) => ends(page, 3, refusal::number(why) as u64),
+    }
+}
+
+fn unit_is(page: &[u64; 32], unit: Unit) -> bool {
+    match unit {
+        Unit::Of(v) => point_is(page, 5, v),
+        Unit::Nothing => ends(page, 5, NONE),
+    }
+}
+
+fn matrix(page: &[u64; 32]) -> Matrix {
+    Matrix {
+        x00: real(page[2]),
+        x01: real(page[3]),
+        x02: real(page[4]),
+        x03: real(page[5]),
+        x10: real(page[6]),
+        x11: real(page[7]),
+        x12: real(page[8]),
+        x13: real(page[9]),
+        x20: real(page[10]),
+        x21: real(page[11]),
+        x22: real(page[12]),
+        x23: real(page[13]),
+        x30: real(page[14]),
+        x31: real(page[15]),
+        x32: real(page[16]),
+        x33: real(page[17]),
+    }
+}
+
+// The rows of one or two numbers, by the function's number.
+fn numbers_agree(page: &[u64; 32]) -> bool {
+    match page[0] {
+        1 => root_is(page, vector::number::sqrt(real(page[2]))),
+        2 => whole_is(page, vector::number::floor(real(page[2]))),
+        3 => number_is(page, 3, vector::number::abs(real(page[2]))),
+        4 => number_is(page, 5, point(page, 2).length()),
+        5 => number_is(page, 8, point(page, 2).distance(point(page, 5))),
+        6 => number_is(page, 5, point(page, 2).length_squared()),
+        7 => number_is(page, 8, point(page, 2).distance_squared(point(page, 5))),
+        8 => number_is(page, 8, point(page, 2).dot(point(page, 5))),
+        19 => number_is(
+            page,
+            11,
+            point(page, 2).segment_distance(point(page, 5), point(page, 8)),
+        ),
+        _ => points_agree(page),
+    }
+}
+
+fn points_agree(page: &[u64; 32]) -> bool {
+    match page[0] {
+        9 => point_is(page, 8, point(page, 2).cross(point(page, 5))),
+        10 => unit_is(page, point(page, 2).normalize()),
+        11 => point_is(page, 8, point(page, 2).add(point(page, 5))),
+        12 => point_is(page, 8, point(page, 2).sub(point(page, 5))),
+        13 => point_is(page, 8, point(page, 2).mul(point(page, 5))),
+        14 => point_is(page, 8, point(page, 2).div(point(page, 5))),
+        15 => point_is(page, 6, point(page, 2).add_scalar(real(page[5]))),
+        16 => point_is(page, 6, point(page, 2).sub_scalar(real(page[5]))),
+        17 => point_is(page, 6, point(page, 2).mul_scalar(real(page[5]))),
+        18 => point_is(page, 6, point(page, 2).div_scalar(real(page[5]))),
+        20 => point_is(page, 21, matrix(page).mul_position_w(point(page, 18))),
+        _ => false,
+    }
+}
+
+// ---- the rows
+
+// The value of a digit, 16 where the byte is none.
+fn digit(b: u8) -> u64 {
+    match b {
+        b'0'..=b'9' => b as u64 - 48,
+        b'a'..=b'f' => b as u64 - 87,
+        _ => 16,
+    }
+}
+
+// A digit more of the word that is being read, or a row that is none.
+fn add_digit(page: &mut [u64; 32], d: u64) {
+    let whole = page[WHOLE];
+    if d < 16 {
+        if whole < WORDS as u64 {
+            let at = whole as usize;
+            page[at] = page[at] % 0x1000_0000_0000_0000 * 16 + d;
+            return;
+        }
+    }
+    page[SPOILT] = 1;
+}
+
+// The word that was being read is whole.
+fn end_word(page: &mut [u64; 32]) {
+    let whole = page[WHOLE];
+    if whole < WORDS as u64 {
+        page[WHOLE] = whole + 1;
+    }
+}
+
+fn bump(counts: &mut [u64; 32], function: usize)
+    requires { ⌜ function < 32 ⌝ }
+{
+    counts[function] = std::num::wrapping_add_u64(counts[function], 1);
+}
+
+// One more row of a function, in the counts of rows or of those that differ.
+fn count(counts: &mut [u64; 32], function: u64) {
+    if function < 21 {
+        bump(counts, function as usize);
+    } else {
+        bump(counts, 0);
+    }
+}
+
+// The row is whole: it is worked out and counted.
+fn end_row(page: &mut [u64; 32], rows: &mut [u64; 32], differ: &mut [u64; 32]) {
+    let function = page[0];
+    let agrees = page[SPOILT] == 0 && numbers_agree(page);
+    count(rows, function);
+    if !agrees {
+        count(differ, function);
+    }
+    *page = [0; 32];
+}
+
+fn take_byte(b: u8, page: &mut [u64; 32], rows: &mut [u64; 32], differ: &mut [u64; 32]) {
+    match b {
+        b'\n' => {
+            end_word(page);
+            end_row(page, rows, differ);
+        }
+        b' ' => end_word(page),
+        _ => add_digit(page, digit(b)),
+    }
+}
+
+fn take_bytes(bytes: &[u8], page: &mut [u64; 32], rows: &mut [u64; 32], differ: &mut [u64; 32]) {
+    let mut i = 0;
+    while i < bytes.len() {
+        take_byte(bytes[i], page, rows, differ);
+        i += 1;
+    }
+}
+
+// Reads once and takes in what came; answers whether there may be more.
+fn read_some(page: &mut [u64; 32], rows: &mut [u64; 32], differ: &mut [u64; 32]) -> bool {
+    let mut buffer = io::large_buffer();
+    let n = io::read_full(STDIN_FILENO, &mut buffer);
+    take_bytes(&buffer[..n], page, rows, differ);
+    n > 0
+}
+
+// Reads to the end. Nothing says that an input ends, so the turns are counted down from a number that no run uses up.
+fn read_rows(rows: &mut [u64; 32], differ: &mut [u64; 32]) {
+    let mut page = [0u64; 32];
+    let mut turns = u64::MAX;
+    while turns > 0 && read_some(&mut page, rows, differ) {
+        turns -= 1;
+    }
+}
+
+// ---- what is printed
+
+// The name of a function, out of all names with sixteen bytes each.
+fn print_name(function: usize)
+    requires { ⌜ function < 21 ⌝ }
+{
+    let names: &[u8] =
+        b"no function     sqrt            floor           abs             length          distance        length_squared  distance_squareddot             cross           normalize       add             sub             mul             div             add_scalar      sub_scalar      mul_scalar      div_scalar      segment_distancemul_position_w  ";
+    let at = function * 16;
+    print(&names[at..at + 16]);
+}
+
+fn print(text: &[u8]) {
+    io::write_all(STDOUT_FILENO, text);
+}
+
+fn print_counts(rows: u64, differ: u64) {
+    print(b" ");
+    io::print_decimal(STDOUT_FILENO, rows);
+    print(b" rows, ");
+    io::print_decimal(STDOUT_FILENO, differ);
+    print(b" differ\n");
+}
+
+fn sum(counts: &[u64; 32]) -> u64 {
+    let mut all: u64 = 0;
+    let mut i = 0;
+    while i < 21 {
+        all = std::num::wrapping_add_u64(all, counts[i]);
+        i += 1;
+    }
+    all
+}
+
+fn print_rows(rows: &[u64; 32], differ: &[u64; 32]) {
+    let mut function = 0;
+    while function < 21 {
+        print_name(function);
+        print_counts(rows[function], differ[function]);
+        function += 1;
+    }
+}
+
+fn main() {
+    let mut rows = [0u64; 32];
+    let mut differ = [0u64; 32];
+    read_rows(&mut rows, &mut differ);
+    print_rows(&rows, &differ);
+    print(b"all             ");
+    print_counts(sum(&rows), sum(&differ));
+}

@@ -1,0 +1,72 @@
+/* Ramikohy's proved functions for C. A point is three doubles, a matrix sixteen, row by row.
+ *
+ * A function that can refuse answers a status: 0, or the number of the refusal, and then the place of its value is left
+ * as it was. The others answer the value itself, or write the point to their last parameter. What is written must not
+ * overlap with anything else that is lent. */
+#ifndef RAMIKOHY_H
+#define RAMIKOHY_H
+
+#include <stddef.h>
+#include <stdint.h>
+
+#ifdef __cplusplus
+extern "C" {
+#endif
+
+/* The status that says that there is none. No refusal has this number. */
+#define RAMIKOHY_NONE 255
+
+uint32_t ramikohy_floor(double x, int64_t *whole);
+uint32_t ramikohy_sqrt(double x, double *root);
+double ramikohy_abs(double x);
+double ramikohy_length(const double a[3]);
+double ramikohy_distance(const double a[3], const double b[3]);
+double ramikohy_length_squared(const double a[3]);
+double ramikohy_distance_squared(const double a[3], const double b[3]);
+double ramikohy_dot(const double a[3], const double b[3]);
+void ramikohy_cross(const double a[3], const double b[3], double out[3]);
+/* RAMIKOHY_NONE where the computed length is 0: `out` is then left as it was. */
+uint32_t ramikohy_normalize(const double a[3], double out[3]);
+void ramikohy_add(const double a[3], const double b[3], double out[3]);
+void ramikohy_sub(const double a[3], const double b[3], double out[3]);
+void ramikohy_mul(const double a[3], const double b[3], double out[3]);
+void ramikohy_div(const double a[3], const double b[3], double out[3]);
+void ramikohy_add_scalar(const double a[3], double s, double out[3]);
+void ramikohy_sub_scalar(const double a[3], double s, double out[3]);
+void ramikohy_mul_scalar(const double a[3], double s, double out[3]);
+void ramikohy_div_scalar(const double a[3], double s, double out[3]);
+double ramikohy_segment_distance(const double a[3], const double v[3], const double w[3]);
+void ramikohy_mul_position_w(const double m[16], const double a[3], double out[3]);
+
+/* The calls on lists. A list is a pointer and its length; a list of points has three doubles a point, a list of strokes
+ * its points and the place of each stroke's first point. Each call answers a status, and how much it wrote goes to the
+ * last parameters. An accepted call leaves scratch all zero, and output past what it wrote as it was; a refusal changes
+ * nothing that is lent. */
+
+/* Strokes cut into steps. Output: what is written, and no more. */
+uint32_t ramikohy_chop(const double *points, size_t points_len, const uint32_t *starts, size_t starts_len, double step,
+                       double *out_points, size_t out_points_len, uint32_t *out_starts, size_t out_starts_len,
+                       size_t *point_count, size_t *start_count);
+
+/* Strokes of vertex numbers, joined end to end. Scratch: 8 words a stroke. Output: as many points and starts as the input. */
+uint32_t ramikohy_splice(const uint32_t *points, size_t points_len, const uint32_t *starts, size_t starts_len,
+                         uint32_t *scratch, size_t scratch_len, uint32_t *out_points, size_t out_points_len,
+                         uint32_t *out_starts, size_t out_starts_len, size_t *point_count, size_t *start_count);
+
+/* Corners, nine numbers a face, as vertices and three vertex numbers a face. Scratch: 12 words a face. Output: 3 vertices
+ * and 3 indices a face. */
+uint32_t ramikohy_weld(const double *coords, size_t coords_len, uint32_t *scratch, size_t scratch_len, double *vertices,
+                       size_t vertices_len, uint32_t *indices, size_t indices_len, size_t *vertex_count,
+                       size_t *index_count);
+
+/* Where a plane cuts the faces of a mesh, a stroke of two points each. Output: 2 points and 1 start a face. */
+uint32_t ramikohy_section(const double *vertices, size_t vertices_len, const uint32_t *indices, size_t indices_len,
+                          const double plane_point[3], const double plane_normal[3], double tolerance,
+                          double *out_points, size_t out_points_len, uint32_t *out_starts, size_t out_starts_len,
+                          size_t *point_count, size_t *start_count);
+
+#ifdef __cplusplus
+}
+#endif
+
+#endif

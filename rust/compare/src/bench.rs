@@ -1,0 +1,58 @@
+//! Times of the port beside the original: one process, the same inputs, the best of several runs.
+
+use crate::torus::{self, Mesh};
+use std::time::Instant;
+
+/// The two sizes, by the quads around and across, with the count of faces.
+pub const SIZES: [(usize, usize, usize); 2] = [(128, 64, 16384), (256, 128, 65536)];
+
+/// The seconds of the best of `runs` runs.
+pub fn best(runs: usize, mut work: impl FnMut()) -> f64 {
+    let one = |work: &mut dyn FnMut()| {
+        let began = Instant::now();
+        work();
+        began.elapsed().as_secs_f64()
+    };
+    (0..runs).map(|_| one(&mut work)).fold(f64::INFINITY, f64::min)
+}
+
+/// A call's times at both sizes, in seconds.
+pub struct Row {
+    pub call: &'static str,
+    pub port: [f64; 2],
+    pub original: [f64; 2],
+}
+
+impl Row {
+    /// A line of the table: times at the larger size in milliseconds, the ratio, and how the port's time grows.
+    pub fn line(&self) -> String {
+        let [small, large] = self.port;
+        let theirs = self.original[1];
+        format!(
+            "| {} | {:.2} | {:.2} | {:.2} | {:.2} |",
+            self.call,
+            large * 1e3,
+            theirs * 1e3,
+            large / theirs,
+            large / small
+        )
+    }
+}
+
+/// What is timed: the port's work and the original's, each on a mesh.
+pub struct Call {
+    pub name: &'static str,
+    pub port: fn(&Mesh, usize) -> f64,
+    pub original: fn(&Mesh, usize) -> f64,
+}
+
+/// Times a call at both sizes.
+pub fn time(call: &Call, runs: usize) -> Row {
+    let at = |size: usize| {
+        let (around, across, _) = SIZES[size];
+        let mesh = torus::wavy(around, across);
+        ((call.port)(&mesh, runs), (call.original)(&mesh, runs))
+    };
+    let (small, large) = (at(0), at(1));
+    Row { call: call.name, port: [small.0, large.0], original: [small.1, large.1] }
+}

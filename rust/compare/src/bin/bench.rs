@@ -1,0 +1,217 @@
+//! `bench`: a table of times, port beside original, in Markdown on standard output. (`make bench` writes it to a file.)
+
+#[cfg(not(original))]
+fn main() {
+    eprintln!("{}", compare::NO_ORIGINAL);
+    std::process::exit(1);
+}
+
+#[cfg(original)]
+fn main() {
+    let cores = std::thread::available_parallelism().map_or(1, |n| n.get());
+    println!("# Times\n");
+    println!("Written by `make bench` on a machine of kind {} with {cores} cores.", std::env::consts::ARCH);
+    println!("Port and original ran in one process on the same inputs, in a release build; each time is the best of");
+    println!(
+        "{RUNS} runs. The inputs come from a wavy torus of 65,536 faces; growth is the port's time there over its time"
+    );
+    println!("at 16,384 faces, a quarter. A call of the arithmetic is made once for each corner of each face.\n");
+    println!("| call | port, ms | original, ms | port / original | growth |");
+    println!("|---|---|---|---|---|");
+    for call in calls::CALLS {
+        println!("{}", compare::bench::time(call, RUNS).line());
+    }
+}
+
+#[cfg(original)]
+const RUNS: usize = 25;
+
+#[cfg(original)]
+mod calls {
+    use compare::bench::{Call, best};
+    use compare::torus::Mesh;
+    use original::eps_1e9::{matrix::Matrix, mesh, path::Paths, plane::Plane, triangle::Triangle, vector::Vector};
+    use ramikohy::lent;
+    use std::hint::black_box;
+
+    pub const CALLS: &[Call] = &[
+        Call { name: "sqrt", port: sqrt_port, original: sqrt_original },
+        Call { name: "normalize", port: normalize_port, original: normalize_original },
+        Call { name: "segment_distance", port: segment_port, original: segment_original },
+        Call { name: "mul_position_w", port: position_port, original: position_original },
+        Call { name: "chop into five steps a span", port: chop_port, original: chop_original },
+        Call { name: "splice of all edges", port: splice_port, original: splice_original },
+        Call { name: "weld", port: weld_port, original: weld_original },
+        Call { name: "section", port: section_port, original: section_original },
+    ];
+
+    /// A view of the torus with perspective.
+    const VIEW: [f64; 16] = [1.2, 0.1, 0.0, 512.0, 0.0, 1.3, 0.2, 384.0, 0.1, 0.0, 1.1, 0.5, 0.0, 0.01, 0.02, 4.0];
+
+    fn vectors(mesh: &Mesh) -> Vec<Vector> {
+        mesh.corners().iter().map(|&[x, y, z]| Vector::new(x, y, z)).collect()
+    }
+
+    fn squares(mesh: &Mesh) -> Vec<f64> {
+        vectors(mesh).iter().map(|v| v.length_squared()).collect()
+    }
+
+    fn sqrt_port(mesh: &Mesh, runs: usize) -> f64 {
+        let (input, mut out) = (squares(mesh), vec![0.0; mesh.faces.len() * 3]);
+        best(runs, || {
+            input.iter().zip(&mut out).for_each(|(&x, y)| {
+                lent::sqrt(black_box(x), y);
+            });
+            black_box(&mut out);
+        })
+    }
+
+    fn sqrt_original(mesh: &Mesh, runs: usize) -> f64 {
+        let (input, mut out) = (squares(mesh), vec![0.0; mesh.faces.len() * 3]);
+        best(runs, || {
+            input.iter().zip(&mut out).for_each(|(&x, y)| *y = black_box(x).sqrt());
+            black_box(&mut out);
+        })
+    }
+
+    fn normalize_port(mesh: &Mesh, runs: usize) -> f64 {
+        let (input, mut out) = (mesh.corners(), vec![[0.0; 3]; mesh.faces.len() * 3]);
+        best(runs, || {
+            input.iter().zip(&mut out).for_each(|(a, unit)| {
+                lent::normalize(a, unit);
+            });
+            black_box(&mut out);
+        })
+    }
+
+    fn normalize_original(mesh: &Mesh, runs: usize) -> f64 {
+        let (input, mut out) = (vectors(mesh), vec![Vector::default(); mesh.faces.len() * 3]);
+        best(runs, || {
+            input.iter().zip(&mut out).for_each(|(a, unit)| *unit = black_box(a).normalize());
+            black_box(&mut out);
+        })
+    }
+
+    fn segment_port(mesh: &Mesh, runs: usize) -> f64 {
+        let (input, mut out) = (mesh.corners(), vec![0.0; mesh.faces.len() * 3]);
+        best(runs, || {
+            input.windows(3).zip(&mut out).for_each(|(w, d)| *d = lent::segment_distance(&w[1], &w[0], &w[2]));
+            black_box(&mut out);
+        })
+    }
+
+    fn segment_original(mesh: &Mesh, runs: usize) -> f64 {
+        let (input, mut out) = (vectors(mesh), vec![0.0; mesh.faces.len() * 3]);
+        best(runs, || {
+            input.windows(3).zip(&mut out).for_each(|(w, d)| *d = black_box(w)[1].segment_distance(w[0], w[2]));
+            black_box(&mut out);
+        })
+    }
+
+    fn position_port(mesh: &Mesh, runs: usize) -> f64 {
+        let (input, mut out) = (mesh.corners(), vec![[0.0; 3]; mesh.faces.len() * 3]);
+        best(runs, || {
+            input.iter().zip(&mut out).for_each(|(a, b)| lent::mul_position_w(&VIEW, a, b));
+            black_box(&mut out);
+        })
+    }
+
+    fn position_original(mesh: &Mesh, runs: usize) -> f64 {
+        let [x00, x01, x02, x03, x10, x11, x12, x13, x20, x21, x22, x23, x30, x31, x32, x33] = VIEW;
+        let view = Matrix { x00, x01, x02, x03, x10, x11, x12, x13, x20, x21, x22, x23, x30, x31, x32, x33 };
+        let (input, mut out) = (vectors(mesh), vec![Vector::default(); mesh.faces.len() * 3]);
+        best(runs, || {
+            input.iter().zip(&mut out).for_each(|(a, b)| *b = black_box(&view).mul_position_w(*a));
+            black_box(&mut out);
+        })
+    }
+
+    /// The vertices as rings, and a step that cuts their mean span into five.
+    fn rings(mesh: &Mesh) -> (Vec<f64>, Vec<u32>, f64) {
+        let points = mesh.vertices.as_flattened().to_vec();
+        let starts = (0..mesh.vertices.len() as u32).step_by(64).collect();
+        let spans = mesh.vertices.windows(2).map(|w| ramikohy::lent::distance(&w[0], &w[1]));
+        (points, starts, spans.sum::<f64>() / mesh.vertices.len() as f64 / 5.0)
+    }
+
+    fn chop_port(mesh: &Mesh, runs: usize) -> f64 {
+        let (points, starts, step) = rings(mesh);
+        let (mut out_points, mut out_starts) = (vec![0.0; points.len() * 16], starts.clone());
+        best(runs, || {
+            lent::chop(&points, &starts, step, &mut out_points, &mut out_starts).unwrap();
+            black_box((&mut out_points, &mut out_starts));
+        })
+    }
+
+    fn chop_original(mesh: &Mesh, runs: usize) -> f64 {
+        let (points, _, step) = rings(mesh);
+        let vectors: Vec<Vector> = points.chunks_exact(3).map(|p| Vector::new(p[0], p[1], p[2])).collect();
+        let mut paths = Paths::new();
+        vectors.chunks(64).for_each(|ring| paths.new_path().extend(ring.iter().copied()));
+        best(runs, || {
+            black_box(paths.chop(step));
+        })
+    }
+
+    fn splice_port(mesh: &Mesh, runs: usize) -> f64 {
+        let points = mesh.edges().concat();
+        let starts: Vec<u32> = (0..points.len() as u32 / 2).map(|i| 2 * i).collect();
+        let (mut scratch, mut out_points, mut out_starts) = (vec![0; 8 * starts.len()], points.clone(), starts.clone());
+        best(runs, || {
+            lent::splice(&points, &starts, &mut scratch, &mut out_points, &mut out_starts).unwrap();
+            black_box((&mut out_points, &mut out_starts));
+        })
+    }
+
+    fn splice_original(mesh: &Mesh, runs: usize) -> f64 {
+        let mut paths = Paths::new();
+        mesh.edges().iter().for_each(|edge| paths.new_path().extend(edge.map(|v| v as usize)));
+        best(runs, || {
+            black_box(paths.splice_exact());
+        })
+    }
+
+    fn weld_port(mesh: &Mesh, runs: usize) -> f64 {
+        let corners = mesh.corners();
+        let (mut vertices, mut indices) = (vec![0.0; corners.len() * 3], vec![0; corners.len()]);
+        let mut scratch = vec![0; 4 * corners.len()];
+        best(runs, || {
+            lent::weld(corners.as_flattened(), &mut scratch, &mut vertices, &mut indices).unwrap();
+            black_box((&mut vertices, &mut indices));
+        })
+    }
+
+    fn weld_original(mesh: &Mesh, runs: usize) -> f64 {
+        let corners = vectors(mesh);
+        best(runs, || {
+            black_box(mesh::weld(&corners));
+        })
+    }
+
+    /// A slanted plane through the torus.
+    const PLANE: ramikohy::Plane = ramikohy::Plane { point: [0.1, 0.2, 0.05], normal: [0.3, 0.9, 0.2] };
+
+    fn section_port(mesh: &Mesh, runs: usize) -> f64 {
+        let (vertices, indices) = (mesh.vertices.as_flattened(), mesh.faces.as_flattened());
+        let (mut points, mut starts) = (vec![0.0; 6 * mesh.faces.len()], vec![0; mesh.faces.len()]);
+        best(runs, || {
+            lent::section(vertices, indices, &PLANE, 1e-9, &mut points, &mut starts).unwrap();
+            black_box((&mut points, &mut starts));
+        })
+    }
+
+    fn section_original(mesh: &Mesh, runs: usize) -> f64 {
+        let vector = |[x, y, z]: [f64; 3]| Vector::new(x, y, z);
+        let plane = Plane::new(vector(PLANE.point), vector(PLANE.normal));
+        let at = |v: u32| vector(mesh.vertices[v as usize]);
+        best(runs, || {
+            let mut paths = Paths::new();
+            for &[a, b, c] in &mesh.faces {
+                if let Some((p, q)) = plane.intersect_triangle(&Triangle::new(at(a), at(b), at(c))) {
+                    paths.new_path().extend([p, q]);
+                }
+            }
+            black_box(paths);
+        })
+    }
+}

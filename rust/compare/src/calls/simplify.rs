@@ -1,0 +1,63 @@
+//! `simplify`: strokes on coordinates, with the points that are near enough to a line left out.
+
+use super::strokes::{bits, bits_of, coordinates, paths_of, split, table};
+use super::{Left, Lent, dirty, room};
+use crate::random::Random;
+
+#[derive(Clone, Debug)]
+pub struct Input {
+    pub points: Vec<f64>,
+    pub starts: Vec<u32>,
+    pub threshold: f64,
+    /// Points lent, as the bits of their coordinates.
+    pub lent: Lent<u64>,
+}
+
+/// A random input, its room about as much as it needs.
+pub fn make(random: &mut Random) -> Input {
+    let count = random.below(12);
+    let points = coordinates(random, count);
+    let starts = table(random, points.len() / 3);
+    let thresholds = [0.0, 0.25, 0.5, 1.0, 2.0, f64::INFINITY, -0.0, -1.0, -1e-300, f64::NAN];
+    let pick = if random.once_in(4) { random.below(thresholds.len()) } else { random.below(6) };
+    let lengths = [0, room(random, points.len() / 3) * 3, room(random, starts.len())];
+    let lent = dirty(random, lengths, |word| bits(f64::from_bits(word)));
+    Input { points, starts, threshold: thresholds[pick], lent }
+}
+
+/// What the rules and the original say that the call leaves. The count of distances is that of the rule: each call on
+/// three points or more measures all but its ends.
+pub fn judged(input: &Input) -> Left<u64> {
+    use original::eps_1e9::vector::Vector;
+    let Input { points, starts, threshold, lent } = input;
+    let status = crate::reading::simplify(points, starts, *threshold, lent.points.len() / 3, lent.starts.len());
+    if status != 0 {
+        return lent.refused(status);
+    }
+    let strokes = split(points, starts, 3);
+    let vectors = |s: &Vec<f64>| s.chunks_exact(3).map(|p| Vector::new(p[0], p[1], p[2])).collect::<Vec<_>>();
+    let measured = strokes.iter().map(|s| measured(&vectors(s), *threshold)).sum();
+    let simplified = paths_of!(eps_1e9, strokes).simplify(*threshold);
+    lent.accepted(&bits_of!(simplified), 3, &[measured])
+}
+
+/// How many distances the rule measures.
+fn measured(path: &[original::eps_1e9::vector::Vector], threshold: f64) -> usize {
+    if path.len() < 3 {
+        return 0;
+    }
+    let last = path.len() - 1;
+    let (mut index, mut farthest) = (0, 0.0);
+    for i in 1..last {
+        let d = path[i].segment_distance(path[0], path[last]);
+        if d > farthest {
+            (index, farthest) = (i, d);
+        }
+    }
+    let here = last - 1;
+    if farthest > threshold {
+        here + measured(&path[..=index], threshold) + measured(&path[index..], threshold)
+    } else {
+        here
+    }
+}

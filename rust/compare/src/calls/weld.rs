@@ -1,0 +1,88 @@
+//! `weld`: corners that lie near each other become one vertex.
+
+use super::strokes::bits;
+use super::{Left, Lent, dirty, room};
+use crate::random::Random;
+use crate::runs::Seen;
+use crate::torus;
+
+#[derive(Clone, Debug)]
+pub struct Input {
+    /// Nine numbers a face.
+    pub corners: Vec<f64>,
+    /// Room for vertices, as the bits of their coordinates, and for indices.
+    pub lent: Lent<u64>,
+}
+
+/// A random input: corners some parts of the cell's width apart, around places where cells change.
+pub fn make(random: &mut Random) -> Input {
+    let faces = random.below(7);
+    let part = random.one_of(&[1e-7, 2.5e-7, 3e-7, 5e-7, 1e-6]);
+    let about = random.one_of(&[0.0, 1.0, -1.0, 1000.0, -1048575.5]);
+    let spread = 1 + random.below(9);
+    let mut corners: Vec<f64> =
+        (0..faces * 9).map(|_| about + (random.below(spread) as f64 - (spread / 2) as f64) * part).collect();
+    if random.once_in(12) && !corners.is_empty() {
+        let at = random.below(corners.len());
+        corners[at] = random.one_of(&[-0.0, 1048576.0, -1048576.0, 1048576.0000000002, f64::NAN, f64::INFINITY]);
+    }
+    if random.once_in(16) {
+        corners.pop();
+    }
+    let lengths = [12 * faces, 3 * faces, 3 * faces].map(|n| room(random, n));
+    let lent = dirty(random, [lengths[0], lengths[1] * 3, lengths[2]], |word| bits(f64::from_bits(word)));
+    Input { corners, lent }
+}
+
+/// The torus of the benchmarks, with the most faces that a call takes, and with one more; and a small one jittered by less than
+/// a cell.
+fn always() -> impl Iterator<Item = Input> {
+    let torus = torus::wavy(256, 128).corners();
+    let over = [&torus[..], &torus[..3]].concat();
+    let mut random = Random::new(9);
+    let mut jittered = torus::wavy(24, 12).corners();
+    jittered.as_flattened_mut().iter_mut().for_each(|x| *x += (random.unit() - 0.5) * 1.5e-6);
+    [torus, over, jittered].into_iter().map(|corners| Input {
+        lent: Lent {
+            scratch: vec![7; 4 * corners.len()],
+            numbers: vec![],
+            points: vec![5; 3 * corners.len()],
+            starts: vec![9; corners.len()],
+        },
+        corners: corners.concat(),
+    })
+}
+
+/// What the rules and the original say that the call leaves.
+pub fn judged(input: &Input) -> Left<u64> {
+    use original::eps_1e9::{mesh, vector::Vector};
+    let Input { corners, lent } = input;
+    let status = crate::reading::weld(corners, lent.scratch.len(), lent.points.len(), lent.starts.len());
+    if status != 0 {
+        return lent.refused(status);
+    }
+    let corners: Vec<Vector> = corners.chunks_exact(3).map(|p| Vector::new(p[0], p[1], p[2])).collect();
+    let (vertices, indices) = mesh::weld(&corners);
+    let mut lent = lent.clone();
+    for (place, x) in lent.points.iter_mut().zip(vertices.iter().flat_map(|v| [v.x, v.y, v.z])) {
+        *place = bits(x);
+    }
+    for (place, &i) in lent.starts.iter_mut().zip(&indices) {
+        *place = i as u32;
+    }
+    lent.scratch.fill(0);
+    Left { status: 0, counts: vec![vertices.len(), indices.len()], lent }
+}
+
+/// What the port leaves.
+fn port(input: &Input) -> Left<u64> {
+    let (mut room, mut lent) = (super::numbers(&input.lent.points), input.lent.clone());
+    let answer = ramikohy::lent::weld(&input.corners, &mut lent.scratch, &mut room, &mut lent.starts);
+    lent.points = room.iter().map(|&x| bits(x)).collect();
+    super::left(answer.map(|wrote| [wrote.vertices, wrote.indices]), lent)
+}
+
+/// Runs the port beside the original.
+pub fn run(count: u64, seed: u64) -> Seen {
+    super::run(always(), make, judged, port, (count, seed))
+}

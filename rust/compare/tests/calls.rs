@@ -1,0 +1,197 @@
+//! The judge of the calls on buffers: the worked cases of the rules, by the original, and what must hold of all answers.
+#![cfg(original)]
+
+use compare::calls::{Left, Lent, adaptive, chop, draw, section, simplify, splice, weld};
+use compare::random::Random;
+
+/// Room for plenty, with something in it.
+fn plenty<P: Copy>(fill: P) -> Lent<P> {
+    Lent { scratch: vec![7; 128], numbers: vec![7; 8], points: vec![fill; 96], starts: vec![9; 16] }
+}
+
+/// The points that were written, and where their strokes start.
+fn written<P: Copy>(left: &Left<P>, width: usize) -> (Vec<P>, Vec<u32>) {
+    assert_eq!(left.status, 0);
+    (left.lent.points[..left.counts[0] * width].to_vec(), left.lent.starts[..left.counts[1]].to_vec())
+}
+
+fn spliced(strokes: &[&[u32]]) -> (Vec<u32>, Vec<u32>) {
+    let input = splice::of_strokes(&strokes.iter().map(|s| s.to_vec()).collect::<Vec<_>>());
+    let left = splice::judged(&input);
+    assert!(splice::is_sound(&input, &left));
+    written(&left, 1)
+}
+
+#[test]
+fn splices_of_the_rules() {
+    assert_eq!(spliced(&[&[1, 2], &[2, 3], &[2, 4]]), (vec![1, 2, 4, 2, 3], vec![0, 3]));
+    assert_eq!(spliced(&[&[7], &[7]]), (vec![7], vec![0]));
+    assert_eq!(spliced(&[&[0, 1], &[1, 2], &[0, 2]]), (vec![1, 0, 2, 1], vec![0]));
+}
+
+/// Strokes of points on the x axis.
+fn on_x(xs: &[f64]) -> Vec<f64> {
+    xs.iter().flat_map(|&x| [x, 0.0, 0.0]).collect()
+}
+
+#[test]
+fn cuts_of_the_rules() {
+    let cut = |step| {
+        let input = chop::Input { points: on_x(&[0.0, 1.0]), starts: vec![0], step, lent: plenty(5) };
+        chop::judged(&input).counts
+    };
+    assert_eq!(cut(0.25), [5, 1]);
+    assert_eq!(cut(1.0), [2, 1]);
+}
+
+#[test]
+fn adaptive_cuts_of_the_rules() {
+    let halvings = |from: f64, to: f64, step: f64| {
+        let mut matrix = [0.0; 16];
+        (matrix[0], matrix[5], matrix[10], matrix[15]) = (1.0, 1.0, 1.0, 1.0);
+        let left = adaptive::judged(&adaptive::Input {
+            points: on_x(&[from, to]),
+            starts: vec![0],
+            matrix,
+            width: 10.0,
+            height: 10.0,
+            step,
+            tolerance: 1e-9,
+            lent: plenty(5),
+        });
+        assert_eq!(left.counts[0], 2 + left.counts[2]);
+        left.counts[2]
+    };
+    assert_eq!(halvings(0.0, 4.0, 2.5), 1);
+    assert_eq!(halvings(0.0, 4.0, 2.0), 3);
+    assert_eq!(halvings(11.0, 15.0, 2.0), 0);
+}
+
+#[test]
+fn simplifyings_of_the_rules() {
+    let kept = |points: Vec<f64>, threshold| {
+        simplify::judged(&simplify::Input { points, starts: vec![0], threshold, lent: plenty(5) }).counts
+    };
+    let hat = vec![0.0, 0.0, 0.0, 1.0, 1.0, 0.0, 2.0, 0.0, 0.0];
+    assert_eq!(kept(hat.clone(), 1.0), [2, 1, 1]);
+    assert_eq!(kept(hat, 0.5), [3, 1, 1]);
+    assert_eq!(kept(on_x(&[0.0, 1.0, 0.0]), 1.0), [2, 1, 1]);
+    assert_eq!(
+        simplify::judged(&simplify::Input { points: on_x(&[0.0]), starts: vec![0], threshold: -1.0, lent: plenty(5) })
+            .status,
+        4
+    );
+}
+
+fn welded(xs: &[f64; 3]) -> Vec<u32> {
+    let left = weld::judged(&weld::Input { corners: on_x(xs), lent: plenty(5) });
+    left.lent.starts[..left.counts[1]].to_vec()
+}
+
+#[test]
+fn welds_of_the_rules() {
+    assert_eq!(welded(&[0.0, 0.000001, 0.0]), [0, 1, 0]);
+    assert_eq!(welded(&[0.0, 6e-7, 1.2e-6]), [0, 0, 1]);
+    assert_eq!(welded(&[1.5e-6, 0.0, 9e-7]), [0, 1, 1]);
+}
+
+/// A drawing of the unit square of two faces.
+fn square(mode: u32, cos_theta: f64, eye: [f64; 3], flips: &[u32]) -> Vec<u32> {
+    let vertices = vec![0.0, 0.0, 0.0, 1.0, 0.0, 0.0, 1.0, 1.0, 0.0, 0.0, 1.0, 0.0];
+    let (indices, flips, lent) = (vec![0, 1, 2, 0, 2, 3], flips.to_vec(), plenty(5));
+    let input = draw::Input { vertices, indices, flips, mode, cos_theta, eye, tolerance: 1e-9, lent };
+    written(&draw::renamed(&input, draw::judged(&input)), 1).0
+}
+
+#[test]
+fn drawings_of_the_rules() {
+    let (triangles, polygonal) = ([0, 2, 3, 0, 1, 2], [1, 0, 3, 2, 1]);
+    let above = [0.0, 0.0, 5.0];
+    assert_eq!(square(0, 0.0, above, &[]), triangles);
+    assert_eq!(square(1, 0.0, above, &[]), triangles);
+    assert_eq!(square(2, 0.0, above, &[]), polygonal);
+    assert_eq!(square(3, 0.0, above, &[]), polygonal);
+    assert_eq!(square(3, 0.0, above, &[0, 1]), triangles);
+    assert_eq!(square(3, 0.0, above, &[1, 0]), polygonal);
+    assert_eq!(square(3, 1.0, above, &[]), triangles);
+    assert_eq!(square(3, 0.0, [5.0, 5.0, 0.0], &[]), triangles);
+}
+
+/// A drawing of one face of three corners.
+fn face(indices: [u32; 3], mode: u32) -> Left<u32> {
+    draw::judged(&draw::Input {
+        vertices: vec![0.0, 0.0, 0.0, 1.0, 0.0, 0.0, 0.0, 1.0, 0.0],
+        indices: indices.to_vec(),
+        flips: Vec::new(),
+        mode,
+        cos_theta: 0.0,
+        eye: [0.0; 3],
+        tolerance: 1e-9,
+        lent: plenty(5),
+    })
+}
+
+#[test]
+fn faces_of_the_rules() {
+    assert_eq!(written(&face([0, 1, 2], 1), 1), (vec![1, 0, 2, 1], vec![0]));
+    assert_eq!([1, 2, 3].map(|mode| face([0, 0, 1], mode).status), [0, 7, 7]);
+}
+
+#[test]
+fn sections_of_the_rules() {
+    let left = section::judged(&section::Input {
+        vertices: vec![0.0, 0.0, 0.0, 1.0, 1.0, 0.0, 2.0, 0.0, 0.0],
+        indices: vec![0, 1, 2],
+        plane: [1.0, 0.0, 0.0, 1.0, 0.0, 0.0],
+        tolerance: 1e-9,
+        lent: plenty(5),
+    });
+    let twice = [1.0f64, 1.0, 0.0, 1.0, 1.0, 0.0].map(f64::to_bits);
+    assert_eq!(written(&left, 3), (twice.to_vec(), vec![0]));
+}
+
+/// Which statuses random inputs meet.
+fn met<I, P>(make: fn(&mut Random) -> I, judged: fn(&I) -> Left<P>) -> Vec<u32> {
+    let mut random = Random::new(3);
+    let mut met: Vec<u32> = (0..20_000).map(|_| judged(&make(&mut random)).status).collect();
+    met.sort_unstable();
+    met.dedup();
+    met
+}
+
+#[test]
+fn random_inputs_meet_every_refusal_that_they_can() {
+    assert_eq!(met(splice::make, splice::judged), [0, 1, 5, 6]);
+    assert_eq!(met(chop::make, chop::judged), [0, 1, 4, 6]);
+    assert_eq!(met(simplify::make, simplify::judged), [0, 1, 4, 6]);
+    assert_eq!(met(adaptive::make, adaptive::judged), [0, 1, 4, 6, 8]);
+    assert_eq!(met(weld::make, weld::judged), [0, 1, 4, 5, 6]);
+    assert_eq!(met(draw::make, draw::judged), [0, 1, 3, 4, 5, 6, 7]);
+    assert_eq!(met(section::make, section::judged), [0, 1, 3, 4, 6]);
+}
+
+#[test]
+fn every_splice_of_the_original_is_sound() {
+    let mut random = Random::new(4);
+    for input in splice::all_small().chain((0..20_000).map(|_| splice::make(&mut random))) {
+        let left = splice::judged(&input);
+        assert!(left.status != 0 || splice::is_sound(&input, &left), "{input:?}");
+    }
+}
+
+/// The rules' walk of an adaptive cut, written apart, makes the original's points, for each tolerance that it is built for.
+#[test]
+fn the_walk_is_the_originals() {
+    let mut random = Random::new(5);
+    let mut accepted = 0;
+    for _ in 0..20_000 {
+        let input = adaptive::make(&mut random);
+        let left = adaptive::judged(&input);
+        if left.status == 0 {
+            let (strokes, halvings) = adaptive::walked(&input).unwrap();
+            assert_eq!(left, input.lent.accepted(&strokes, 3, &[halvings]));
+            accepted += 1;
+        }
+    }
+    assert!(accepted > 5_000);
+}

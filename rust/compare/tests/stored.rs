@@ -1,0 +1,51 @@
+//! The stored rows, worked out by the archive as it is compiled for this machine. (The program `replay` works them out
+//! by the proved crate itself.) These need no original.
+
+use compare::arithmetic::FUNCTIONS;
+use compare::rows;
+use std::path::Path;
+
+fn stored() -> String {
+    std::fs::read_to_string(Path::new(env!("CARGO_MANIFEST_DIR")).join("../../crates/replay/stdin")).unwrap()
+}
+
+fn agrees(line: &str) -> bool {
+    rows::read(line).is_some_and(|(function, operands, answer)| function.same(answer, (function.port)(&operands)))
+}
+
+#[test]
+fn every_stored_answer_is_the_archives() {
+    let text = stored();
+    let mut counts = vec![0; FUNCTIONS.len()];
+    for line in text.lines() {
+        assert!(agrees(line), "{line}");
+        counts[usize::from_str_radix(&line[..2], 16).unwrap() - 1] += 1;
+    }
+    assert!(counts.iter().all(|&n| n >= 300), "{counts:?}");
+    assert!(counts[0] >= 1000);
+}
+
+/// A comparison that cannot fail shows nothing: each row with one bit of its last word changed is seen. (A NaN is
+/// answered by every pattern of a NaN, and a refusal has no last word of its own.)
+#[test]
+fn a_damaged_answer_is_seen() {
+    let mut seen = 0;
+    for line in stored().lines() {
+        let (function, _, answer) = rows::read(line).unwrap();
+        let last = answer.values[function.values - 1];
+        if answer.status == 0 && (function.name == "floor" || !f64::from_bits(last).is_nan()) {
+            assert!(!agrees(&format!("{}{:016x}", &line[..line.len() - 16], last ^ 1)), "{line}");
+            seen += 1;
+        }
+    }
+    assert!(seen > 5000);
+}
+
+/// The rows are what the maker makes, so anyone can make them again.
+#[test]
+#[cfg(original)]
+fn the_stored_rows_are_the_makers() {
+    let made = std::process::Command::new(env!("CARGO_BIN_EXE_rows")).output().unwrap();
+    assert!(made.status.success());
+    assert_eq!(String::from_utf8(made.stdout).unwrap(), stored());
+}

@@ -1,0 +1,111 @@
+//! The Rattle source, the header for C and the declarations for Rust name the same functions, with the same parameters.
+
+use std::collections::BTreeMap;
+use std::path::Path;
+
+/// A function's parameters, a word for each, and its result, in one notation for the three languages: `x: f64`,
+/// `a: const f64 3` for an array of three, `list: const u32` and `list_len: usize` for a slice.
+type Surface = BTreeMap<String, Vec<String>>;
+
+fn read(file: &str) -> String {
+    std::fs::read_to_string(Path::new(env!("CARGO_MANIFEST_DIR")).join("..").join(file)).unwrap()
+}
+
+/// Each part of `text` between `head` and the first `end` after it.
+fn parts<'a>(text: &'a str, head: &'a str, end: &'a str) -> impl Iterator<Item = &'a str> {
+    text.split(head).skip(1).map(move |part| part.split(end).next().unwrap())
+}
+
+/// Takes `NAME(PARAMETERS)REST` apart.
+fn taken_apart(text: &str) -> (String, Vec<String>, String) {
+    let (name, rest) = text.split_once('(').unwrap();
+    let (parameters, rest) = rest.rsplit_once(')').unwrap();
+    let parameters = parameters.split(',').map(|p| p.trim().to_string()).filter(|p| !p.is_empty()).collect();
+    (name.trim().to_string(), parameters, rest.trim().to_string())
+}
+
+/// A parameter of Rattle or Rust, `NAME: TYPE`, by C's parameters.
+fn by_c(parameter: &str) -> Vec<String> {
+    let (name, of) = parameter.split_once(':').unwrap();
+    let (name, of) = (name.trim(), of.trim());
+    for (start, access) in [("&mut ", "mut"), ("*mut ", "mut"), ("*const ", "const"), ("&", "const")] {
+        let Some(behind) = of.strip_prefix(start) else { continue };
+        let Some(list) = behind.strip_prefix('[') else { return vec![format!("{name}: {access} {behind}")] };
+        return match list.trim_end_matches(']').split_once(';') {
+            Some((element, count)) => vec![format!("{name}: {access} {element} {}", count.trim())],
+            None => vec![format!("{name}: {access} {}", list.trim_end_matches(']')), format!("{name}_len: usize")],
+        };
+    }
+    vec![format!("{name}: {of}")]
+}
+
+/// The functions of a text in the manner of Rust, each after `head`.
+fn like_rust(text: &str, head: &str, end: &str) -> Surface {
+    let mut surface = Surface::new();
+    for part in parts(text, head, end) {
+        let (name, parameters, rest) = taken_apart(part);
+        let mut words: Vec<String> = parameters.iter().flat_map(|p| by_c(p)).collect();
+        words.push(rest.trim_start_matches("->").trim().to_string());
+        surface.insert(name, words);
+    }
+    surface
+}
+
+fn rust_type(of: &str) -> &str {
+    match of {
+        "double" => "f64",
+        "uint8_t" => "u8",
+        "uint32_t" => "u32",
+        "int64_t" => "i64",
+        "size_t" => "usize",
+        "void" => "",
+        other => panic!("a type that the header has not had yet: {other}"),
+    }
+}
+
+/// A parameter of C: `double x`, `int64_t *whole`, `const double a[3]`.
+fn c_parameter(parameter: &str) -> String {
+    let is_const = parameter.starts_with("const ");
+    let (of, name) = parameter.trim_start_matches("const ").split_once(' ').unwrap();
+    let access = if is_const { "const" } else { "mut" };
+    let of = rust_type(of);
+    if let Some(name) = name.strip_prefix('*') {
+        return format!("{name}: {access} {of}");
+    }
+    match name.split_once('[') {
+        Some((name, count)) => format!("{name}: {access} {of} {}", count.trim_end_matches(']')),
+        None => format!("{name}: {of}"),
+    }
+}
+
+fn header() -> Surface {
+    let text = read("include/ramikohy.h");
+    let mut surface = Surface::new();
+    for line in text.split(';') {
+        let Some(at) = line.find(" ramikohy_") else { continue };
+        let (before, from) = line.split_at(at);
+        let result = before.split_whitespace().last().unwrap();
+        let (name, parameters, _) = taken_apart(from);
+        let mut words: Vec<String> = parameters.iter().map(|p| c_parameter(&p.replace('\n', " "))).collect();
+        words.push(rust_type(result).to_string());
+        surface.insert(name, words);
+    }
+    surface
+}
+
+#[test]
+fn the_three_languages_name_the_same_functions() {
+    let source = ["lib", "strokes", "meshes"].map(|file| read(&format!("crates/ramikohy/src/{file}.rt"))).concat();
+    let rattle = like_rust(&source, "pub extern \"C\" fn ", "\n    ensures");
+    let rust = like_rust(&read("rust/src/c.rs"), "pub fn ", ";\n");
+    assert_eq!(rattle.len(), source.matches("#[no_mangle]").count());
+    assert_eq!(rattle, rust);
+    assert_eq!(rattle, header());
+}
+
+#[test]
+fn the_three_languages_have_the_same_status_for_none() {
+    assert!(read("crates/ramikohy/src/lib.rt").contains("pub const NONE: u32 = 255;"));
+    assert!(read("include/ramikohy.h").contains("#define RAMIKOHY_NONE 255\n"));
+    assert_eq!(ramikohy::c::NONE, 255);
+}
