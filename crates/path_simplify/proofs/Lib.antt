@@ -1,3 +1,4 @@
+pub mod Squares
 pub mod Thins
 pub mod Totals
 pub mod Calls

@@ -1,3 +1,4 @@
 pub mod Simplify
+pub mod Squares
 pub mod Call
 pub mod Cases

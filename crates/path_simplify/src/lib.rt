@@ -20,6 +20,8 @@ ghost use Rattle.path.specs.Strokes.{pointAt};
 ghost use Rattle.path.specs.Laid.{putPoints, pen, inked, out, push, pushAll, joined};
 ghost use Rattle.path.specs.Left.{left};
 ghost use Rattle.path_simplify.specs.Simplify.{fartherOf, farthest, splitsAt, thin, thinned, simplified, distances, simplifiedOf, placeOf};
+ghost use Rattle.vector.specs.Lengths.{segmentDistanceOf};
+ghost use Rattle.path_simplify.specs.Squares.{segmentSquareOf, farOf, Rooted};
 ghost use Rattle.path_simplify.specs.Call.{said, shortOf, roomFor, thresholdGood, simplifyVerdict, simplifyLeft};
 
 // What simplify wrote and how many distances it measured, or why it was refused.
@@ -51,12 +53,47 @@ pub struct Progress {
     pub distances: usize,
 }
 
-// The farther of two, the first where they are level.
-fn farther(best: Far, i: usize, d: f64) -> Far
-    ensures { λ r. ⌜ r ≡ fartherOf best i d ⌝ }
+// The farthest point of a scan so far, with the square of its distance.
+pub struct Best {
+    pub at: usize,
+    pub far: f64,
+    pub square: f64,
+}
+
+// The square of the distance of p from the segment from v to w: segment_distance before its root.
+fn segment_square(p: Vector, v: Vector, w: Vector) -> f64
+    ensures { λ r. ⌜ r ≡ segmentSquareOf p v w ⌝ }
 {
+    let l2 = v.distance_squared(w);
+    if l2 == 0.0 {
+        return p.distance_squared(v);
+    }
+    let t = p.sub(v).dot(w.sub(v)) / l2;
+    if t < 0.0 {
+        return p.distance_squared(v);
+    }
+    if t > 1.0 {
+        return p.distance_squared(w);
+    }
+    v.add(w.sub(v).mul_scalar(t)).distance_squared(p)
+}
+
+// The farther of two, the first where they are level. No root is worked out where the square is not above.
+fn farther(best: Best, i: usize, p: Vector, a: Vector, b: Vector) -> Best
+    requires { ⌜ Rooted best ⌝ }
+    ensures { λ r. ⌜ (farOf r ≡ fartherOf (farOf best) i (segmentDistanceOf p a b)) × Rooted r ⌝ }
+{
+    let square = segment_square(p, a, b);
+    if !(square > best.square) {
+        return best;
+    }
+    let d = p.segment_distance(a, b);
     if d > best.far {
-        return Far { at: i, far: d };
+        return Best {
+            at: i,
+            far: d,
+            square: square,
+        };
     }
     best
 }
@@ -68,14 +105,20 @@ fn find_far(points: &[f64], lo: usize, hi: usize) -> Far
 {
     let a = point_at(points, lo);
     let b = point_at(points, hi);
-    let mut best = Far { at: lo, far: 0.0 };
+    let mut best = Best {
+        at: lo,
+        far: 0.0,
+        square: 0.0,
+    };
     let mut i = lo + 1;
     while i < hi {
-        let p = point_at(points, i);
-        best = farther(best, i, p.segment_distance(a, b));
+        best = farther(best, i, point_at(points, i), a, b);
         i += 1;
     }
-    best
+    Far {
+        at: best.at,
+        far: best.far,
+    }
 }
 
 // Whether the farthest splits the points from lo on: strictly above the threshold.
