@@ -1,4 +1,4 @@
-// Works the stored rows out by the crate `vector`, and counts those whose answer is another.
+// Works the stored rows out by the proved crates, and counts those whose answer is another.
 //
 // A row is words of hexadecimal digits with a space between: the function's number, the status, the operands' bits and, where the
 // status is 0, the values' bits. Two NaN count as equal. A row that is no row of a function counts as one that differs.
@@ -11,13 +11,15 @@ use vector::number::Root;
 use vector::number::Whole;
 ghost use Prim.Native.Nat.{_≤_, _<_};
 
+mod calls;
+
 // The page holds the words of the row that is being read, and at these places how many of them are whole, and whether a byte
 // came that belongs to no row.
-const WORDS: usize = 28;
+const WORDS: usize = 248;
 
-const WHOLE: usize = 30;
+const WHOLE: usize = 254;
 
-const SPOILT: usize = 31;
+const SPOILT: usize = 255;
 
 // The status of a vector that has no direction.
 const NONE: u64 = 255;
@@ -49,7 +51,7 @@ fn signed(bits: u64) -> i64 {
     !((0xffff_ffff_ffff_ffff - bits) as i64)
 }
 
-fn point(page: &[u64; 32], at: usize) -> Vector
+fn point(page: &[u64; 256], at: usize) -> Vector
     requires { ⌜ at < 30 ⌝ }
 {
     Vector {
@@ -60,17 +62,17 @@ fn point(page: &[u64; 32], at: usize) -> Vector
 }
 
 // Whether the row has the words that end before `end`, and this status.
-fn ends(page: &[u64; 32], end: u64, status: u64) -> bool {
+fn ends(page: &[u64; 256], end: u64, status: u64) -> bool {
     page[WHOLE] == end && page[1] == status
 }
 
-fn number_is(page: &[u64; 32], at: usize, x: f64) -> bool
+fn number_is(page: &[u64; 256], at: usize, x: f64) -> bool
     requires { ⌜ at < 30 ⌝ }
 {
     ends(page, at as u64 + 1, 0) && same(x, page[at])
 }
 
-fn point_is(page: &[u64; 32], at: usize, v: Vector) -> bool
+fn point_is(page: &[u64; 256], at: usize, v: Vector) -> bool
     requires { ⌜ at < 30 ⌝ }
 {
     ends(page, at as u64 + 3, 0)
@@ -79,28 +81,28 @@ fn point_is(page: &[u64; 32], at: usize, v: Vector) -> bool
         && same(v.z, page[at + 2])
 }
 
-fn root_is(page: &[u64; 32], root: Root) -> bool {
+fn root_is(page: &[u64; 256], root: Root) -> bool {
     match root {
         Root::Of(y) => number_is(page, 3, y),
         Root::Refused(why) => ends(page, 3, refusal::number(why) as u64),
     }
 }
 
-fn whole_is(page: &[u64; 32], whole: Whole) -> bool {
+fn whole_is(page: &[u64; 256], whole: Whole) -> bool {
     match whole {
         Whole::Of(z) => ends(page, 4, 0) && z == signed(page[3]),
         Whole::Refused(why) => ends(page, 3, refusal::number(why) as u64),
     }
 }
 
-fn unit_is(page: &[u64; 32], unit: Unit) -> bool {
+fn unit_is(page: &[u64; 256], unit: Unit) -> bool {
     match unit {
         Unit::Of(v) => point_is(page, 5, v),
         Unit::Nothing => ends(page, 5, NONE),
     }
 }
 
-fn matrix(page: &[u64; 32]) -> Matrix {
+fn matrix(page: &[u64; 256]) -> Matrix {
     Matrix {
         x00: real(page[2]),
         x01: real(page[3]),
@@ -122,7 +124,7 @@ fn matrix(page: &[u64; 32]) -> Matrix {
 }
 
 // The rows of one or two numbers, by the function's number.
-fn numbers_agree(page: &[u64; 32]) -> bool {
+fn numbers_agree(page: &[u64; 256]) -> bool {
     match page[0] {
         1 => root_is(page, vector::number::sqrt(real(page[2]))),
         2 => whole_is(page, vector::number::floor(real(page[2]))),
@@ -141,7 +143,7 @@ fn numbers_agree(page: &[u64; 32]) -> bool {
     }
 }
 
-fn points_agree(page: &[u64; 32]) -> bool {
+fn points_agree(page: &[u64; 256]) -> bool {
     match page[0] {
         9 => point_is(page, 8, point(page, 2).cross(point(page, 5))),
         10 => unit_is(page, point(page, 2).normalize()),
@@ -154,7 +156,7 @@ fn points_agree(page: &[u64; 32]) -> bool {
         17 => point_is(page, 6, point(page, 2).mul_scalar(real(page[5]))),
         18 => point_is(page, 6, point(page, 2).div_scalar(real(page[5]))),
         20 => point_is(page, 21, matrix(page).mul_position_w(point(page, 18))),
-        _ => false,
+        _ => calls::agree(page),
     }
 }
 
@@ -170,7 +172,7 @@ fn digit(b: u8) -> u64 {
 }
 
 // A digit more of the word that is being read, or a row that is none.
-fn add_digit(page: &mut [u64; 32], d: u64) {
+fn add_digit(page: &mut [u64; 256], d: u64) {
     let whole = page[WHOLE];
     if d < 16 {
         if whole < WORDS as u64 {
@@ -183,7 +185,7 @@ fn add_digit(page: &mut [u64; 32], d: u64) {
 }
 
 // The word that was being read is whole.
-fn end_word(page: &mut [u64; 32]) {
+fn end_word(page: &mut [u64; 256]) {
     let whole = page[WHOLE];
     if whole < WORDS as u64 {
         page[WHOLE] = whole + 1;
@@ -198,7 +200,7 @@ fn bump(counts: &mut [u64; 32], function: usize)
 
 // One more row of a function, in the counts of rows or of those that differ.
 fn count(counts: &mut [u64; 32], function: u64) {
-    if function < 21 {
+    if function < 25 {
         bump(counts, function as usize);
     } else {
         bump(counts, 0);
@@ -206,17 +208,17 @@ fn count(counts: &mut [u64; 32], function: u64) {
 }
 
 // The row is whole: it is worked out and counted.
-fn end_row(page: &mut [u64; 32], rows: &mut [u64; 32], differ: &mut [u64; 32]) {
+fn end_row(page: &mut [u64; 256], rows: &mut [u64; 32], differ: &mut [u64; 32]) {
     let function = page[0];
     let agrees = page[SPOILT] == 0 && numbers_agree(page);
     count(rows, function);
     if !agrees {
         count(differ, function);
     }
-    *page = [0; 32];
+    *page = [0; 256];
 }
 
-fn take_byte(b: u8, page: &mut [u64; 32], rows: &mut [u64; 32], differ: &mut [u64; 32]) {
+fn take_byte(b: u8, page: &mut [u64; 256], rows: &mut [u64; 32], differ: &mut [u64; 32]) {
     match b {
         b'\n' => {
             end_word(page);
@@ -227,7 +229,7 @@ fn take_byte(b: u8, page: &mut [u64; 32], rows: &mut [u64; 32], differ: &mut [u6
     }
 }
 
-fn take_bytes(bytes: &[u8], page: &mut [u64; 32], rows: &mut [u64; 32], differ: &mut [u64; 32]) {
+fn take_bytes(bytes: &[u8], page: &mut [u64; 256], rows: &mut [u64; 32], differ: &mut [u64; 32]) {
     let mut i = 0;
     while i < bytes.len() {
         take_byte(bytes[i], page, rows, differ);
@@ -236,7 +238,7 @@ fn take_bytes(bytes: &[u8], page: &mut [u64; 32], rows: &mut [u64; 32], differ: 
 }
 
 // Reads once and takes in what came; answers whether there may be more.
-fn read_some(page: &mut [u64; 32], rows: &mut [u64; 32], differ: &mut [u64; 32]) -> bool {
+fn read_some(page: &mut [u64; 256], rows: &mut [u64; 32], differ: &mut [u64; 32]) -> bool {
     let mut buffer = io::large_buffer();
     let n = io::read_full(STDIN_FILENO, &mut buffer);
     take_bytes(&buffer[..n], page, rows, differ);
@@ -245,7 +247,7 @@ fn read_some(page: &mut [u64; 32], rows: &mut [u64; 32], differ: &mut [u64; 32])
 
 // Reads to the end. Nothing says that an input ends, so the turns are counted down from a number that no run uses up.
 fn read_rows(rows: &mut [u64; 32], differ: &mut [u64; 32]) {
-    let mut page = [0u64; 32];
+    let mut page = [0u64; 256];
     let mut turns = u64::MAX;
     while turns > 0 && read_some(&mut page, rows, differ) {
         turns -= 1;
@@ -256,10 +258,10 @@ fn read_rows(rows: &mut [u64; 32], differ: &mut [u64; 32]) {
 
 // The name of a function, out of all names with sixteen bytes each.
 fn print_name(function: usize)
-    requires { ⌜ function < 21 ⌝ }
+    requires { ⌜ function < 25 ⌝ }
 {
     let names: &[u8] =
-        b"no function     sqrt            floor           abs             length          distance        length_squared  distance_squareddot             cross           normalize       add             sub             mul             div             add_scalar      sub_scalar      mul_scalar      div_scalar      segment_distancemul_position_w  ";
+        b"no function     sqrt            floor           abs             length          distance        length_squared  distance_squareddot             cross           normalize       add             sub             mul             div             add_scalar      sub_scalar      mul_scalar      div_scalar      segment_distancemul_position_w  chop            splice          weld            section         ";
     let at = function * 16;
     print(&names[at..at + 16]);
 }
@@ -279,7 +281,7 @@ fn print_counts(rows: u64, differ: u64) {
 fn sum(counts: &[u64; 32]) -> u64 {
     let mut all: u64 = 0;
     let mut i = 0;
-    while i < 21 {
+    while i < 25 {
         all = std::num::wrapping_add_u64(all, counts[i]);
         i += 1;
     }
@@ -288,7 +290,7 @@ fn sum(counts: &[u64; 32]) -> u64 {
 
 fn print_rows(rows: &[u64; 32], differ: &[u64; 32]) {
     let mut function = 0;
-    while function < 21 {
+    while function < 25 {
         print_name(function);
         print_counts(rows[function], differ[function]);
         function += 1;
