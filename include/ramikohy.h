@@ -53,6 +53,17 @@ uint32_t ramikohy_splice(const uint32_t *points, size_t points_len, const uint32
                          uint32_t *scratch, size_t scratch_len, uint32_t *out_points, size_t out_points_len,
                          uint32_t *out_starts, size_t out_starts_len, size_t *point_count, size_t *start_count);
 
+/* Strokes whose spans are halved until they are short on the screen. Output: what is written, and no more. */
+uint32_t ramikohy_chop_adaptive(const double *points, size_t points_len, const uint32_t *starts, size_t starts_len,
+                                const double matrix[16], double width, double height, double step, double tolerance,
+                                double *out_points, size_t out_points_len, uint32_t *out_starts, size_t out_starts_len,
+                                size_t *point_count, size_t *start_count, size_t *halving_count);
+
+/* Strokes without the points that are near enough to a line. Output: as many points and starts as the input. */
+uint32_t ramikohy_simplify(const double *points, size_t points_len, const uint32_t *starts, size_t starts_len,
+                           double threshold, double *out_points, size_t out_points_len, uint32_t *out_starts,
+                           size_t out_starts_len, size_t *point_count, size_t *start_count, size_t *distance_count);
+
 /* Corners, nine numbers a face, as vertices and three vertex numbers a face. Scratch: 12 words a face. Output: 3 vertices
  * and 3 indices a face. */
 uint32_t ramikohy_weld(const double *coords, size_t coords_len, uint32_t *scratch, size_t scratch_len, double *vertices,

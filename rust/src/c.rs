@@ -81,4 +81,36 @@ unsafe extern "C" {
         point_count: *mut usize,
         start_count: *mut usize,
     ) -> u32;
+    pub fn ramikohy_chop_adaptive(
+        points: *const f64,
+        points_len: usize,
+        starts: *const u32,
+        starts_len: usize,
+        matrix: *const [f64; 16],
+        width: f64,
+        height: f64,
+        step: f64,
+        tolerance: f64,
+        out_points: *mut f64,
+        out_points_len: usize,
+        out_starts: *mut u32,
+        out_starts_len: usize,
+        point_count: *mut usize,
+        start_count: *mut usize,
+        halving_count: *mut usize,
+    ) -> u32;
+    pub fn ramikohy_simplify(
+        points: *const f64,
+        points_len: usize,
+        starts: *const u32,
+        starts_len: usize,
+        threshold: f64,
+        out_points: *mut f64,
+        out_points_len: usize,
+        out_starts: *mut u32,
+        out_starts_len: usize,
+        point_count: *mut usize,
+        start_count: *mut usize,
+        distance_count: *mut usize,
+    ) -> u32;
 }

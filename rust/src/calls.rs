@@ -2,7 +2,9 @@
 //! caller's. (The functions `lent` are also in [`crate::lent`], under the names of the calls.)
 
 pub mod chop;
+pub mod chop_adaptive;
 pub mod section;
+pub mod simplify;
 pub mod splice;
 pub mod weld;
 

@@ -15,7 +15,9 @@
 use crate::c;
 
 pub use crate::calls::chop::lent as chop;
+pub use crate::calls::chop_adaptive::lent as chop_adaptive;
 pub use crate::calls::section::lent as section;
+pub use crate::calls::simplify::lent as simplify;
 pub use crate::calls::splice::lent as splice;
 pub use crate::calls::weld::lent as weld;
 

@@ -25,7 +25,8 @@ mod refusal;
 mod strokes;
 mod vector;
 
-pub use calls::{chop::chop, section::section, splice::splice, weld::weld};
+pub use calls::chop_adaptive::{View, chop_adaptive};
+pub use calls::{chop::chop, section::section, simplify::simplify, splice::splice, weld::weld};
 pub use matrix::Matrix;
 pub use mesh::{Mesh, Plane};
 pub use number::{abs, floor, sqrt};

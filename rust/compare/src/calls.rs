@@ -60,7 +60,7 @@ impl<P: Copy> Lent<P> {
 }
 
 /// What a call left that answered so.
-pub fn left<P>(answer: Result<[usize; 2], Refusal>, lent: Lent<P>) -> Left<P> {
+pub fn left<P, const N: usize>(answer: Result<[usize; N], Refusal>, lent: Lent<P>) -> Left<P> {
     match answer {
         Ok(counts) => Left { status: 0, counts: counts.to_vec(), lent },
         Err(why) => Left { status: why as u32, counts: Vec::new(), lent },
@@ -82,6 +82,8 @@ pub struct Linked {
 pub const LINKED: &[Linked] = &[
     Linked { name: "splice", run: splice::run },
     Linked { name: "chop", run: chop::run },
+    Linked { name: "chop_adaptive", run: adaptive::run },
+    Linked { name: "simplify", run: simplify::run },
     Linked { name: "weld", run: weld::run },
     Linked { name: "section", run: section::run },
 ];

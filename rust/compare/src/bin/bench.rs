@@ -30,7 +30,9 @@ const RUNS: usize = 25;
 mod calls {
     use compare::bench::{Call, best};
     use compare::torus::Mesh;
-    use original::eps_1e9::{matrix::Matrix, mesh, path::Paths, plane::Plane, triangle::Triangle, vector::Vector};
+    use original::eps_1e9::{
+        matrix::Matrix, mesh, path::Paths, plane::Plane, shape::RenderArgs, triangle::Triangle, vector::Vector,
+    };
     use ramikohy::lent;
     use std::hint::black_box;
 
@@ -40,6 +42,8 @@ mod calls {
         Call { name: "segment_distance", port: segment_port, original: segment_original },
         Call { name: "mul_position_w", port: position_port, original: position_original },
         Call { name: "chop into five steps a span", port: chop_port, original: chop_original },
+        Call { name: "chop_adaptive", port: adaptive_port, original: adaptive_original },
+        Call { name: "simplify, 4,096 points a stroke", port: simplify_port, original: simplify_original },
         Call { name: "splice of all edges", port: splice_port, original: splice_original },
         Call { name: "weld", port: weld_port, original: weld_original },
         Call { name: "section", port: section_port, original: section_original },
@@ -150,6 +154,58 @@ mod calls {
         vectors.chunks(64).for_each(|ring| paths.new_path().extend(ring.iter().copied()));
         best(runs, || {
             black_box(paths.chop(step));
+        })
+    }
+
+    /// The vertices as strokes of so many points.
+    fn strokes(mesh: &Mesh, size: usize) -> Paths<Vector> {
+        let vectors: Vec<Vector> = mesh.vertices.iter().map(|&[x, y, z]| Vector::new(x, y, z)).collect();
+        let mut paths = Paths::new();
+        vectors.chunks(size).for_each(|some| paths.new_path().extend(some.iter().copied()));
+        paths
+    }
+
+    fn adaptive_port(mesh: &Mesh, runs: usize) -> f64 {
+        let (points, starts, _) = rings(mesh);
+        let matrix = ramikohy::Matrix(VIEW);
+        let view = ramikohy::View { matrix, width: 1024.0, height: 768.0, step: 0.01, tolerance: 1e-9 };
+        let (mut out_points, mut out_starts) = (vec![0.0; points.len() * 16], starts.clone());
+        best(runs, || {
+            lent::chop_adaptive(&points, &starts, &view, &mut out_points, &mut out_starts).unwrap();
+            black_box((&mut out_points, &mut out_starts));
+        })
+    }
+
+    fn adaptive_original(mesh: &Mesh, runs: usize) -> f64 {
+        let [x00, x01, x02, x03, x10, x11, x12, x13, x20, x21, x22, x23, x30, x31, x32, x33] = VIEW;
+        let args = RenderArgs {
+            screen_mat: Matrix { x00, x01, x02, x03, x10, x11, x12, x13, x20, x21, x22, x23, x30, x31, x32, x33 },
+            eye: Vector::default(),
+            up: Vector::default(),
+            width: 1024.0,
+            height: 768.0,
+            step: 0.01,
+        };
+        let paths = strokes(mesh, 64);
+        best(runs, || {
+            black_box(paths.chop_adaptive(&args));
+        })
+    }
+
+    fn simplify_port(mesh: &Mesh, runs: usize) -> f64 {
+        let points = mesh.vertices.as_flattened();
+        let starts: Vec<u32> = (0..mesh.vertices.len() as u32).step_by(4096).collect();
+        let (mut out_points, mut out_starts) = (points.to_vec(), starts.clone());
+        best(runs, || {
+            lent::simplify(points, &starts, 0.01, &mut out_points, &mut out_starts).unwrap();
+            black_box((&mut out_points, &mut out_starts));
+        })
+    }
+
+    fn simplify_original(mesh: &Mesh, runs: usize) -> f64 {
+        let paths = strokes(mesh, 4096);
+        best(runs, || {
+            black_box(paths.simplify(0.01));
         })
     }
 

@@ -4,6 +4,7 @@ use super::strokes::{bits, bits_of, coordinates, paths_of, split, table};
 use super::{Left, Lent, dirty, room};
 use crate::random::Random;
 use crate::reading;
+use crate::runs::Seen;
 
 /// The tolerances for which the original is built.
 pub const TOLERANCES: [f64; 3] = [1e-9, 1e-6, 0.25];
@@ -169,4 +170,19 @@ fn cut_by_original(input: &Input) -> Vec<Vec<u64>> {
         Some(2) => cut!(eps_quarter),
         _ => panic!("the original is not built for this tolerance"),
     }
+}
+
+/// What the port leaves.
+fn port(input: &Input) -> Left<u64> {
+    let (mut room, mut starts) = (super::numbers(&input.lent.points), input.lent.starts.clone());
+    let Input { matrix, width, height, step, tolerance, .. } = *input;
+    let view = ramikohy::View { matrix: ramikohy::Matrix(matrix), width, height, step, tolerance };
+    let answer = ramikohy::lent::chop_adaptive(&input.points, &input.starts, &view, &mut room, &mut starts);
+    let counts = answer.map(|wrote| [wrote.points, wrote.starts, wrote.halvings]);
+    super::left(counts, Lent { points: room.iter().map(|&x| bits(x)).collect(), starts, ..input.lent.clone() })
+}
+
+/// Runs the port beside the original.
+pub fn run(count: u64, seed: u64) -> Seen {
+    super::run(std::iter::empty(), make, judged, port, (count, seed))
 }

@@ -3,6 +3,7 @@
 use super::strokes::{bits, bits_of, coordinates, paths_of, split, table};
 use super::{Left, Lent, dirty, room};
 use crate::random::Random;
+use crate::runs::Seen;
 
 #[derive(Clone, Debug)]
 pub struct Input {
@@ -60,4 +61,17 @@ fn measured(path: &[original::eps_1e9::vector::Vector], threshold: f64) -> usize
     } else {
         here
     }
+}
+
+/// What the port leaves.
+fn port(input: &Input) -> Left<u64> {
+    let (mut room, mut starts) = (super::numbers(&input.lent.points), input.lent.starts.clone());
+    let answer = ramikohy::lent::simplify(&input.points, &input.starts, input.threshold, &mut room, &mut starts);
+    let counts = answer.map(|wrote| [wrote.points, wrote.starts, wrote.distances]);
+    super::left(counts, Lent { points: room.iter().map(|&x| bits(x)).collect(), starts, ..input.lent.clone() })
+}
+
+/// Runs the port beside the original.
+pub fn run(count: u64, seed: u64) -> Seen {
+    super::run(std::iter::empty(), make, judged, port, (count, seed))
 }
