@@ -4,6 +4,7 @@ use mesh_section::Plane;
 use mesh_section::Sectioned;
 use mesh_weld::Welded;
 use path_chop::Chopped;
+use path_simplify::Simplified;
 use vector::Vector;
 
 fn text(s: &[u8]) {
@@ -50,6 +51,17 @@ fn chop_status(r: Chopped) -> u64 {
             starts: _,
         } => 0,
         Chopped::Refused(why) => refusal::number(why) as u64,
+    }
+}
+
+fn simplify_status(r: Simplified) -> u64 {
+    match r {
+        Simplified::Wrote {
+            points: _,
+            starts: _,
+            distances: _,
+        } => 0,
+        Simplified::Refused(why) => refusal::number(why) as u64,
     }
 }
 
@@ -164,10 +176,56 @@ fn chop_by_nothing() {
     line(b"chop by step 0, status", chop_status(r));
 }
 
+// A stroke out and back at threshold 1: its two ends, which are equal.
+fn simplify_out_and_back() {
+    let points = [0.0, 0.0, 0.0, 1.0, 0.0, 0.0, 0.0, 0.0, 0.0];
+    let starts = [0u32; 1];
+    let mut out_points = [9.0; 9];
+    let mut out_starts = [0u32; 1];
+    let r = path_simplify::simplify(
+        &points[..],
+        &starts[..],
+        1.0,
+        &mut out_points[..],
+        &mut out_starts[..],
+    );
+    line(
+        b"a stroke out and back at threshold 1, status",
+        simplify_status(r),
+    );
+    text(b"its points, and what was there:");
+    coordinate(out_points[0]);
+    coordinate(out_points[1]);
+    coordinate(out_points[2]);
+    coordinate(out_points[3]);
+    coordinate(out_points[4]);
+    coordinate(out_points[5]);
+    coordinate(out_points[6]);
+    text(b"\n");
+}
+
+// A threshold below 0.
+fn simplify_below_nothing() {
+    let points = [0.0; 9];
+    let starts = [0u32; 1];
+    let mut out_points = [0.0; 9];
+    let mut out_starts = [0u32; 1];
+    let r = path_simplify::simplify(
+        &points[..],
+        &starts[..],
+        -1.0,
+        &mut out_points[..],
+        &mut out_starts[..],
+    );
+    line(b"simplify at threshold -1, status", simplify_status(r));
+}
+
 fn main() {
     section_through_a_corner();
     section_of_the_most_faces();
     section_of_one_face_more();
     weld_of_one_face_more();
     chop_by_nothing();
+    simplify_out_and_back();
+    simplify_below_nothing();
 }

@@ -6,6 +6,8 @@
 pub mod arithmetic;
 pub mod bench;
 #[cfg(original)]
+pub mod call_rows;
+#[cfg(original)]
 pub mod calls;
 pub mod numbers;
 pub mod random;

@@ -9,6 +9,11 @@ fn stored() -> String {
     std::fs::read_to_string(Path::new(env!("CARGO_MANIFEST_DIR")).join("../../crates/replay/stdin")).unwrap()
 }
 
+/// Whether a row is one of the arithmetic; those of the calls are replayed by the program alone.
+fn of_arithmetic(line: &&str) -> bool {
+    u64::from_str_radix(line.split(' ').next().unwrap(), 16).is_ok_and(|number| number as usize <= FUNCTIONS.len())
+}
+
 fn agrees(line: &str) -> bool {
     rows::read(line).is_some_and(|(function, operands, answer)| function.same(answer, (function.port)(&operands)))
 }
@@ -17,7 +22,7 @@ fn agrees(line: &str) -> bool {
 fn every_stored_answer_is_the_archives() {
     let text = stored();
     let mut counts = vec![0; FUNCTIONS.len()];
-    for line in text.lines() {
+    for line in text.lines().filter(of_arithmetic) {
         assert!(agrees(line), "{line}");
         counts[usize::from_str_radix(&line[..2], 16).unwrap() - 1] += 1;
     }
@@ -30,7 +35,7 @@ fn every_stored_answer_is_the_archives() {
 #[test]
 fn a_damaged_answer_is_seen() {
     let mut seen = 0;
-    for line in stored().lines() {
+    for line in stored().lines().filter(of_arithmetic) {
         let (function, _, answer) = rows::read(line).unwrap();
         let last = answer.values[function.values - 1];
         if answer.status == 0 && (function.name == "floor" || !f64::from_bits(last).is_nan()) {

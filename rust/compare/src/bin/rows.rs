@@ -1,4 +1,4 @@
-//! Makes the stored rows of the arithmetic: `rows > crates/replay/stdin`. The same rows each time.
+//! Makes the stored rows of the arithmetic and of the calls on lent lists: `rows > crates/replay/stdin`. The same rows each time.
 
 #[cfg(not(original))]
 fn main() {
@@ -10,7 +10,7 @@ fn main() {
 fn main() {
     use std::io::Write;
     let mut out = std::io::BufWriter::new(std::io::stdout().lock());
-    for line in made::rows() {
+    for line in made::rows().into_iter().chain(compare::call_rows::rows()) {
         writeln!(out, "{line}").unwrap();
     }
 }

@@ -1,0 +1,90 @@
+//! Stored rows of the calls on lent lists: an input, and what the rules and the original say that the call leaves, one to a
+//! line. The program `replay` works them out by the proved crates.
+//!
+//! A row is words of hexadecimal digits with one space between: the call's number, the status, how many numbers each list of
+//! the input has, the other numbers, the lists and, where the status is 0, the counts and what was written. Every list that is
+//! lent has [`LENT`] elements.
+
+use crate::calls::strokes::bits;
+use crate::calls::{Left, Lent, chop, section, splice, weld};
+use crate::random::Random;
+
+/// The elements of each list that a row's call is lent.
+pub const LENT: usize = 96;
+
+/// The most words that a row may have: what `replay` holds.
+const MOST_WORDS: usize = 247;
+
+/// How many rows each call has.
+const ROWS: usize = 300;
+
+/// Every row of every call, the same each time.
+pub fn rows() -> Vec<String> {
+    let mut random = Random::new(2);
+    let mut all = Vec::new();
+    all.extend(made(&mut random, chop_row));
+    all.extend(made(&mut random, splice_row));
+    all.extend(made(&mut random, weld_row));
+    all.extend(made(&mut random, section_row));
+    all
+}
+
+/// The first rows of random inputs that are short enough.
+fn made(random: &mut Random, row: fn(&mut Random) -> Option<Vec<u64>>) -> Vec<String> {
+    let short = |words: &Vec<u64>| words.len() <= MOST_WORDS;
+    let text = |words: Vec<u64>| words.iter().map(|w| format!("{w:x}")).collect::<Vec<_>>().join(" ");
+    std::iter::repeat_with(|| row(random)).flatten().filter(short).map(text).take(ROWS).collect()
+}
+
+/// What is lent: as long as it is in `replay`, with something in it.
+fn lent<P: Copy>(fill: P) -> Lent<P> {
+    Lent { scratch: vec![7; LENT], numbers: Vec::new(), points: vec![fill; LENT], starts: vec![7; LENT] }
+}
+
+fn words(list: &[u32]) -> impl Iterator<Item = u64> + '_ {
+    list.iter().map(|&x| x as u64)
+}
+
+fn reals(list: &[f64]) -> impl Iterator<Item = u64> + '_ {
+    list.iter().map(|&x| bits(x))
+}
+
+/// A row of its number, the status, the sizes, the numbers and the lists; none where a list is too long for `replay`.
+fn row<P: Copy + Into<u64>>(number: u64, sizes: &[usize], lists: Vec<u64>, left: &Left<P>, width: usize) -> Option<Vec<u64>> {
+    if sizes.iter().any(|&n| n >= LENT) {
+        return None;
+    }
+    let mut row = vec![number, left.status as u64];
+    row.extend(sizes.iter().map(|&n| n as u64));
+    row.extend(lists);
+    if left.status == 0 {
+        row.extend(left.counts.iter().map(|&n| n as u64));
+        row.extend(left.lent.points[..left.counts[0] * width].iter().map(|&x| x.into()));
+        row.extend(words(&left.lent.starts[..left.counts[1]]));
+    }
+    Some(row)
+}
+
+fn chop_row(random: &mut Random) -> Option<Vec<u64>> {
+    let input = chop::Input { lent: lent(bits(9.0)), ..chop::make(random) };
+    let lists = [bits(input.step)].into_iter().chain(reals(&input.points)).chain(words(&input.starts)).collect();
+    row(21, &[input.points.len(), input.starts.len()], lists, &chop::judged(&input), 3)
+}
+
+fn splice_row(random: &mut Random) -> Option<Vec<u64>> {
+    let input = splice::Input { lent: lent(7), ..splice::make(random) };
+    let lists = words(&input.points).chain(words(&input.starts)).collect();
+    row(22, &[input.points.len(), input.starts.len()], lists, &splice::judged(&input), 1)
+}
+
+fn weld_row(random: &mut Random) -> Option<Vec<u64>> {
+    let input = weld::Input { lent: lent(bits(9.0)), ..weld::make(random) };
+    row(23, &[input.corners.len()], reals(&input.corners).collect(), &weld::judged(&input), 3)
+}
+
+fn section_row(random: &mut Random) -> Option<Vec<u64>> {
+    let input = section::Input { lent: lent(bits(9.0)), ..section::make(random) };
+    let numbers = [bits(input.tolerance)].into_iter().chain(reals(&input.plane));
+    let lists = numbers.chain(reals(&input.vertices)).chain(words(&input.indices)).collect();
+    row(24, &[input.vertices.len(), input.indices.len()], lists, &section::judged(&input), 3)
+}
