@@ -1,11 +1,11 @@
--- `fill` is safe and ends.
+-- `fill_real` is safe and ends.
 use mathlib.Core.Path.{_≡_}
 use Prim.Native.Nat.{_-_, _≤_}
 use native.Mathlib.Omega.{arith}
 use borrow.Author.Needs.{needs}
 use lib.ListN.{length, length-set}
-use Rattle.replay.proofs.calls.fill.Statement.{statement}
-use Rattle.replay.proofs.calls.fill.Tie as tie
+use Rattle.replay.proofs.fill_real.Statement.{statement}
+use Rattle.replay.proofs.fill_real.Tie as tie
 
 abbrev Inv-loop : tie.InvT-loop
 Inv-loop page at out₀ i₀ out i = (i ≤ length out) × (length out ≡ length out₀)
@@ -22,8 +22,8 @@ add-word c = search needs
 word-requires : tie.Need-word-requires Inv-loop μ-loop
 word-requires c κs = search needs
 
-cast-out : tie.Need-cast-out Inv-loop μ-loop
-cast-out c = search needs
+real-requires : tie.Need-real-requires Inv-loop μ-loop
+real-requires c κs = search needs
 
 mul-out : tie.Need-mul-out Inv-loop μ-loop
 mul-out c = search needs
@@ -46,8 +46,8 @@ same-length c = search needs
 returns : tie.Need-returns Inv-loop μ-loop
 returns c = search needs
 
-pub fill-spec : {M : Type 1} → statement M
-fill-spec =
+pub fill-real-spec : {M : Type 1} → statement M
+fill-real-spec =
     tie.close
     (tie.spec
     Inv-loop
@@ -55,7 +55,7 @@ fill-spec =
     loop-holds
     add-word
     word-requires
-    cast-out
+    real-requires
     mul-out
     slice-write-out
     add-i

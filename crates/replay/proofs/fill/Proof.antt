@@ -1,11 +1,11 @@
--- `fill_real` is safe and ends.
+-- `fill` is safe and ends.
 use mathlib.Core.Path.{_≡_}
 use Prim.Native.Nat.{_-_, _≤_}
 use native.Mathlib.Omega.{arith}
 use borrow.Author.Needs.{needs}
 use lib.ListN.{length, length-set}
-use Rattle.replay.proofs.calls.fill_real.Statement.{statement}
-use Rattle.replay.proofs.calls.fill_real.Tie as tie
+use Rattle.replay.proofs.fill.Statement.{statement}
+use Rattle.replay.proofs.fill.Tie as tie
 
 abbrev Inv-loop : tie.InvT-loop
 Inv-loop page at out₀ i₀ out i = (i ≤ length out) × (length out ≡ length out₀)
@@ -22,8 +22,8 @@ add-word c = search needs
 word-requires : tie.Need-word-requires Inv-loop μ-loop
 word-requires c κs = search needs
 
-real-requires : tie.Need-real-requires Inv-loop μ-loop
-real-requires c κs = search needs
+cast-out : tie.Need-cast-out Inv-loop μ-loop
+cast-out c = search needs
 
 mul-out : tie.Need-mul-out Inv-loop μ-loop
 mul-out c = search needs
@@ -46,8 +46,8 @@ same-length c = search needs
 returns : tie.Need-returns Inv-loop μ-loop
 returns c = search needs
 
-pub fill-real-spec : {M : Type 1} → statement M
-fill-real-spec =
+pub fill-spec : {M : Type 1} → statement M
+fill-spec =
     tie.close
     (tie.spec
     Inv-loop
@@ -55,7 +55,7 @@ fill-real-spec =
     loop-holds
     add-word
     word-requires
-    real-requires
+    cast-out
     mul-out
     slice-write-out
     add-i

@@ -2,8 +2,8 @@
 use Prim.Native.Nat.{_-_, _≤_}
 use borrow.Author.Needs.{needs}
 use lib.ListN.{length}
-use Rattle.replay.proofs.calls.all.Statement.{statement}
-use Rattle.replay.proofs.calls.all.Tie as tie
+use Rattle.replay.proofs.all.Statement.{statement}
+use Rattle.replay.proofs.all.Tie as tie
 
 abbrev Inv-loop : tie.InvT-loop
 Inv-loop list x i₀ i = i ≤ length list

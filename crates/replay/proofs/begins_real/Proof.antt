@@ -1,9 +1,9 @@
--- `begins` is safe and ends.
+-- `begins_real` is safe and ends.
 use Prim.Native.Nat.{_-_, _≤_}
 use borrow.Author.Needs.{needs}
 use lib.ListN.{length}
-use Rattle.replay.proofs.calls.begins.Statement.{statement}
-use Rattle.replay.proofs.calls.begins.Tie as tie
+use Rattle.replay.proofs.begins_real.Statement.{statement}
+use Rattle.replay.proofs.begins_real.Tie as tie
 
 abbrev Inv-loop : tie.InvT-loop
 Inv-loop page at n list i₀ i = i ≤ length list
@@ -20,14 +20,14 @@ mul-x c = search needs
 shared-slice-read-x : tie.Need-shared-slice-read-x Inv-loop μ-loop
 shared-slice-read-x c = search needs
 
-wide-requires : tie.Need-wide-requires Inv-loop μ-loop
-wide-requires c κs = search needs
-
 add-word : tie.Need-add-word Inv-loop μ-loop
 add-word c = search needs
 
 word-requires : tie.Need-word-requires Inv-loop μ-loop
 word-requires c κs = search needs
+
+same-requires : tie.Need-same-requires Inv-loop μ-loop
+same-requires c κs = search needs
 
 returns : tie.Need-returns Inv-loop μ-loop
 returns c = search needs
@@ -47,8 +47,8 @@ loop-again c = search needs
 returns-3 : tie.Need-returns-3 Inv-loop μ-loop
 returns-3 c = search needs
 
-pub begins-spec : {M : Type 1} → statement M
-begins-spec =
+pub begins-real-spec : {M : Type 1} → statement M
+begins-real-spec =
     tie.close
     (tie.spec
     Inv-loop
@@ -56,9 +56,9 @@ begins-spec =
     loop-holds
     mul-x
     shared-slice-read-x
-    wide-requires
     add-word
     word-requires
+    same-requires
     returns
     returns-2
     add-i

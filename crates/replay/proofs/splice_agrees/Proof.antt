@@ -2,8 +2,8 @@
 use native.Mathlib.Omega.{arith}
 use lib.ListN.{length-take}
 use borrow.Author.Needs.{needs}
-use Rattle.replay.proofs.calls.splice_agrees.Statement.{statement}
-use Rattle.replay.proofs.calls.splice_agrees.Tie as tie
+use Rattle.replay.proofs.splice_agrees.Statement.{statement}
+use Rattle.replay.proofs.splice_agrees.Tie as tie
 
 size-requires : tie.Need-size-requires
 size-requires c κs = search needs
