@@ -21,6 +21,13 @@ fn main() {
     for call in calls::CALLS {
         println!("{}", compare::bench::time(call, RUNS).line());
     }
+    println!("\n## Inputs made to hurt\n");
+    println!("As many edges as the torus has for a splice, as many corners for a weld; growth as above.\n");
+    println!("| call | port, ms | original, ms | port / original | growth |");
+    println!("|---|---|---|---|---|");
+    for call in calls::WORST {
+        println!("{}", compare::bench::time(call, RUNS).line());
+    }
 }
 
 #[cfg(original)]
@@ -48,6 +55,88 @@ mod calls {
         Call { name: "weld", port: weld_port, original: weld_original },
         Call { name: "section", port: section_port, original: section_original },
     ];
+
+    /// Edges and corners that a search by value or by cell would be slow on.
+    pub const WORST: &[Call] = &[
+        Call {
+            name: "splice, one vertex in every edge",
+            port: |mesh, runs| splice_of(&star(mesh), runs),
+            original: |mesh, runs| splice_exact_of(&star(mesh), runs),
+        },
+        Call {
+            name: "splice, no vertex in two edges",
+            port: |mesh, runs| splice_of(&apart(mesh), runs),
+            original: |mesh, runs| splice_exact_of(&apart(mesh), runs),
+        },
+        Call {
+            name: "splice, one chain in a mixed order",
+            port: |mesh, runs| splice_of(&chain(mesh), runs),
+            original: |mesh, runs| splice_exact_of(&chain(mesh), runs),
+        },
+        Call {
+            name: "splice, rings of two",
+            port: |mesh, runs| splice_of(&rings(mesh), runs),
+            original: |mesh, runs| splice_exact_of(&rings(mesh), runs),
+        },
+        Call {
+            name: "splice, one edge over and over",
+            port: |mesh, runs| splice_of(&equal(mesh), runs),
+            original: |mesh, runs| splice_exact_of(&equal(mesh), runs),
+        },
+        Call {
+            name: "weld, all corners in one cell",
+            port: |mesh, runs| weld_of(&cluster(mesh, 0.0), runs),
+            original: |mesh, runs| get_or_insert_of(&cluster(mesh, 0.0), runs),
+        },
+        Call {
+            name: "weld, a grid as dense as vertices lie",
+            port: |mesh, runs| weld_of(&cluster(mesh, 1.0000001e-6), runs),
+            original: |mesh, runs| get_or_insert_of(&cluster(mesh, 1.0000001e-6), runs),
+        },
+        Call {
+            name: "weld, nothing near anything",
+            port: |mesh, runs| weld_of(&cluster(mesh, 1.0), runs),
+            original: |mesh, runs| get_or_insert_of(&cluster(mesh, 1.0), runs),
+        },
+    ];
+
+    /// As many edges as the mesh has, by a rule on their number.
+    fn made_edges(mesh: &Mesh, edge: impl Fn(u32, u32) -> [u32; 2]) -> Vec<[u32; 2]> {
+        let n = mesh.edges().len() as u32;
+        (0..n).map(|i| edge(i, n)).collect()
+    }
+
+    fn star(mesh: &Mesh) -> Vec<[u32; 2]> {
+        made_edges(mesh, |i, _| [0, i + 1])
+    }
+
+    fn apart(mesh: &Mesh) -> Vec<[u32; 2]> {
+        made_edges(mesh, |i, _| [2 * i, 2 * i + 1])
+    }
+
+    /// The counts of edges are not multiples of 7,919.
+    fn chain(mesh: &Mesh) -> Vec<[u32; 2]> {
+        made_edges(mesh, |i, n| {
+            let at = (i as u64 * 7919 % n as u64) as u32;
+            [at, at + 1]
+        })
+    }
+
+    fn rings(mesh: &Mesh) -> Vec<[u32; 2]> {
+        made_edges(mesh, |i, _| [i / 2 * 2, i / 2 * 2 + 1])
+    }
+
+    fn equal(mesh: &Mesh) -> Vec<[u32; 2]> {
+        made_edges(mesh, |_, _| [0, 1])
+    }
+
+    /// As many corners as the mesh has, in a cube with this distance from one to the next.
+    fn cluster(mesh: &Mesh, apart: f64) -> Vec<[f64; 3]> {
+        let n = mesh.faces.len() * 3;
+        let side = (n as f64).cbrt().ceil() as usize;
+        let at = |i: usize| [i % side, i / side % side, i / side / side].map(|k| k as f64 * apart);
+        (0..n).map(at).collect()
+    }
 
     /// A view of the torus with perspective.
     const VIEW: [f64; 16] = [1.2, 0.1, 0.0, 512.0, 0.0, 1.3, 0.2, 384.0, 0.1, 0.0, 1.1, 0.5, 0.0, 0.01, 0.02, 4.0];
@@ -210,7 +299,15 @@ mod calls {
     }
 
     fn splice_port(mesh: &Mesh, runs: usize) -> f64 {
-        let points = mesh.edges().concat();
+        splice_of(&mesh.edges(), runs)
+    }
+
+    fn splice_original(mesh: &Mesh, runs: usize) -> f64 {
+        splice_exact_of(&mesh.edges(), runs)
+    }
+
+    fn splice_of(edges: &[[u32; 2]], runs: usize) -> f64 {
+        let points = edges.concat();
         let starts: Vec<u32> = (0..points.len() as u32 / 2).map(|i| 2 * i).collect();
         let (mut scratch, mut out_points, mut out_starts) = (vec![0; 8 * starts.len()], points.clone(), starts.clone());
         best(runs, || {
@@ -219,16 +316,23 @@ mod calls {
         })
     }
 
-    fn splice_original(mesh: &Mesh, runs: usize) -> f64 {
+    fn splice_exact_of(edges: &[[u32; 2]], runs: usize) -> f64 {
         let mut paths = Paths::new();
-        mesh.edges().iter().for_each(|edge| paths.new_path().extend(edge.map(|v| v as usize)));
+        edges.iter().for_each(|edge| paths.new_path().extend(edge.map(|v| v as usize)));
         best(runs, || {
             black_box(paths.splice_exact());
         })
     }
 
     fn weld_port(mesh: &Mesh, runs: usize) -> f64 {
-        let corners = mesh.corners();
+        weld_of(&mesh.corners(), runs)
+    }
+
+    fn weld_original(mesh: &Mesh, runs: usize) -> f64 {
+        get_or_insert_of(&mesh.corners(), runs)
+    }
+
+    fn weld_of(corners: &[[f64; 3]], runs: usize) -> f64 {
         let (mut vertices, mut indices) = (vec![0.0; corners.len() * 3], vec![0; corners.len()]);
         let mut scratch = vec![0; 4 * corners.len()];
         best(runs, || {
@@ -237,8 +341,8 @@ mod calls {
         })
     }
 
-    fn weld_original(mesh: &Mesh, runs: usize) -> f64 {
-        let corners = vectors(mesh);
+    fn get_or_insert_of(corners: &[[f64; 3]], runs: usize) -> f64 {
+        let corners: Vec<Vector> = corners.iter().map(|&[x, y, z]| Vector::new(x, y, z)).collect();
         best(runs, || {
             black_box(mesh::weld(&corners));
         })
