@@ -50,7 +50,13 @@ fn reals(list: &[f64]) -> impl Iterator<Item = u64> + '_ {
 }
 
 /// A row of its number, the status, the sizes, the numbers and the lists; none where a list is too long for `replay`.
-fn row<P: Copy + Into<u64>>(number: u64, sizes: &[usize], lists: Vec<u64>, left: &Left<P>, width: usize) -> Option<Vec<u64>> {
+fn row<P: Copy + Into<u64>>(
+    number: u64,
+    sizes: &[usize],
+    lists: Vec<u64>,
+    left: &Left<P>,
+    width: usize,
+) -> Option<Vec<u64>> {
     if sizes.iter().any(|&n| n >= LENT) {
         return None;
     }

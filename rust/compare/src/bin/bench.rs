@@ -75,8 +75,8 @@ mod calls {
         },
         Call {
             name: "splice, rings of two",
-            port: |mesh, runs| splice_of(&rings(mesh), runs),
-            original: |mesh, runs| splice_exact_of(&rings(mesh), runs),
+            port: |mesh, runs| splice_of(&rings_of_two(mesh), runs),
+            original: |mesh, runs| splice_exact_of(&rings_of_two(mesh), runs),
         },
         Call {
             name: "splice, one edge over and over",
@@ -122,7 +122,7 @@ mod calls {
         })
     }
 
-    fn rings(mesh: &Mesh) -> Vec<[u32; 2]> {
+    fn rings_of_two(mesh: &Mesh) -> Vec<[u32; 2]> {
         made_edges(mesh, |i, _| [i / 2 * 2, i / 2 * 2 + 1])
     }
 
