@@ -33,7 +33,7 @@ root-told (R.Of y) (R.Refused t) e = absurd (never-both _ t e)
 root-told (R.Refused r) (R.Of z) e = absurd (never-both _ r (sym e))
 root-told (R.Refused r) (R.Refused t) e = ap R.Refused (one-refusal r t e)
 
-unit-told : (r t : Unit) → unitSaid r ≡ unitSaid t → r ≡ t
+pub unit-told : (r t : Unit) → unitSaid r ≡ unitSaid t → r ≡ t
 unit-told (U.Of v) (U.Of w) e = let h = same-values e in cc
 unit-told (U.Of v) U.Nothing e = let h = same-values e in let z : _≡_ {A = ℕ} 0 1 = cc in absurd (omega arith)
 unit-told U.Nothing (U.Of w) e = let h = same-values e in let z : _≡_ {A = ℕ} 0 1 = cc in absurd (omega arith)
