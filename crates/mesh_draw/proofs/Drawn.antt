@@ -6,7 +6,7 @@ use lib.Ieee.{Float}
 use Rattle.vector.specs.declared.Vector.{Vector}
 use Rattle.path_ends.specs.Demand.{Demand3}
 use Rattle.path_ends.proofs.Numbers.{on-numbers}
-use Rattle.mesh_draw.specs.declared.Mode.{Mode}
+use Rattle.mesh_mode.specs.declared.Mode.{Mode}
 use Rattle.mesh_draw.specs.Draw.{keptOf, drawingOf}
 
 -- each kept edge once and none invented; then as few open strokes as those edges allow

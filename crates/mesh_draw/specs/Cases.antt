@@ -5,8 +5,8 @@ use Prim.Native.Nat.{ℕ}
 use lib.Ieee.{Float, binary64, ofBits}
 use Rattle.vector.specs.Vectors.{vec}
 use Rattle.vector.specs.Lengths.{zero64, one64}
-use Rattle.mesh_draw.specs.declared.Mode.{Mode}
-use Rattle.mesh_draw.specs.declared.Mode.the-variants.{Triangles, Polygonal}
+use Rattle.mesh_mode.specs.declared.Mode.{Mode}
+use Rattle.mesh_mode.specs.declared.Mode.the-variants.{Triangles, Polygonal}
 use Rattle.mesh_draw.specs.Draw.{drawingOf}
 
 pub data Case : Type 0 where

@@ -1,26 +1,20 @@
 -- A drawing of a mesh: its kept edges, each a stroke of two, smaller first, spliced.
 use mathlib.Core.Bool.{Bool, cond}
 use mathlib.Core.List.{List, [], _∷_, map}
-use Prim.Native.Nat.{ℕ, _*_}
-use lib.ListN.{getD}
+use Prim.Native.Nat.{ℕ}
 use lib.Dec.{eqb}
-use lib.Ieee.{Float, nan}
+use lib.Ieee.{Float}
 use Rattle.vector.specs.declared.Vector.{Vector}
-use Rattle.vector.specs.Vectors.{vec, subOf, dotOf}
 use Rattle.path_ends.specs.Splice.{splice}
-use Rattle.mesh.specs.Meshes.{cornerAt, faceAt}
-use Rattle.mesh_draw.specs.declared.Mode.{Mode}
-use Rattle.mesh_draw.specs.Normals.{normalOf}
-use Rattle.mesh_draw.specs.Edges.{faceOf, lowOf, highOf, edgesOf}
+use Rattle.mesh.specs.Meshes.{faceAt}
+use Rattle.mesh_mode.specs.declared.Mode.{Mode}
+use Rattle.mesh_seen.specs.Normals.{normalOf, facingOf}
+use Rattle.mesh_edges.specs.Edges.{faceOf, lowOf, highOf, edgesOf}
 use Rattle.mesh_draw.specs.Keep.{Seen, kept}
-
--- the normal of face f; a drawing that asks for it is refused where there is none
-abbrev pub faceNormal : List Float → List ℕ → ℕ → Vector
-faceNormal vs is f = getD (normalOf (faceAt vs is f) .values) 0 (vec nan nan nan)
 
 -- what an eye sees of each face
 abbrev pub seenBy : Vector → List Float → List ℕ → Seen
-seenBy eye vs is = record { normal = faceNormal vs is; dot = λ f. dotOf (faceNormal vs is f) (subOf eye (cornerAt vs is (f * 3))) }
+seenBy eye vs is = record { normal = λ f. normalOf (faceAt vs is f); dot = λ f. facingOf eye (faceAt vs is f) }
 
 -- the edges that pass a test on their faces, as strokes
 unfoldable pub strokesBy : (List ℕ → Bool) → List ℕ → List (List ℕ) → List (List ℕ)

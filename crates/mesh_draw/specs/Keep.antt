@@ -8,19 +8,14 @@ use Rattle.vector.specs.declared.Vector.{Vector}
 use Rattle.vector.specs.Vectors.{dotOf}
 use Rattle.vector.specs.Abs.{absOf}
 use Rattle.vector.specs.Lengths.{zero64, one64}
-use Rattle.mesh_draw.specs.declared.Mode.{Mode}
-use Rattle.mesh_draw.specs.declared.Mode.the-variants.{Triangles, Polygonal, Silhouette}
+use Rattle.mesh_mode.specs.declared.Mode.{Mode}
+use Rattle.mesh_mode.specs.declared.Mode.the-variants.{Triangles, Polygonal, Silhouette}
+use Rattle.mesh_edges.specs.Flips.{flipped}
 
 -- what is known of each face: its normal, and the dot of that with eye minus its first corner
 pub record Seen : Type 0 where
   pub normal : ℕ → Vector
   pub dot : ℕ → Float
-
--- whether the list of flips has the pair, written smaller face first
-unfoldable pub flipped : ℕ → ℕ → List ℕ → Bool
-flipped a b [] = false
-flipped a b (x ∷ []) = false
-flipped a b (x ∷ y ∷ fs) = (eqb x a && eqb y b) || flipped a b fs
 
 -- some face whose cosine with the first is below 1.0 minus tolerance
 unfoldable pub someTurns : Seen → Float → ℕ → List ℕ → Bool

@@ -1,7 +1,7 @@
 -- `mode_by` meets its contract.
-use Rattle.mesh_draw.proofs.Modes.{below-two, above-three}
-use Rattle.mesh_draw.proofs.mode_by.Statement.{statement}
-use Rattle.mesh_draw.proofs.mode_by.Tie as tie
+use Rattle.mesh_mode.proofs.Modes.{below-two, above-three}
+use Rattle.mesh_mode.proofs.mode_by.Statement.{statement}
+use Rattle.mesh_mode.proofs.mode_by.Tie as tie
 
 returns : tie.Need-returns
 returns c = let a = c .before .args in below-two (a .number) (a .cos-theta) (c .if1 .taken)

@@ -6,8 +6,8 @@ use native.Mathlib.Omega.{arith}
 use lib.Ieee.{Float}
 use Rattle.refusal.specs.Said.{accepted, refused}
 use Rattle.refusal.specs.declared.Refusal.the-variants.{Number}
-use Rattle.mesh_draw.specs.declared.Mode.the-variants.{Triangles}
-use Rattle.mesh_draw.specs.Modes.{modeBy}
+use Rattle.mesh_mode.specs.declared.Mode.the-variants.{Triangles}
+use Rattle.mesh_mode.specs.Modes.{modeBy}
 
 pub below-two : (n : ℕ) (c : Float) → n < 2 → accepted (Triangles ∷ []) ≡ modeBy n c
 below-two zero c h = refl

@@ -1,8 +1,8 @@
 -- `mode_of` meets its contract.
-use Rattle.mesh_draw.specs.Modes.{modeOf}
+use Rattle.mesh_mode.specs.Modes.{modeOf}
 use borrow.Author.Needs.{needs}
-use Rattle.mesh_draw.proofs.mode_of.Statement.{statement}
-use Rattle.mesh_draw.proofs.mode_of.Tie as tie
+use Rattle.mesh_mode.proofs.mode_of.Statement.{statement}
+use Rattle.mesh_mode.proofs.mode_of.Tie as tie
 
 mode-by-requires : tie.Need-mode-by-requires
 mode-by-requires c κs = search needs

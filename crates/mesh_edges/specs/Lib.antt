@@ -1,0 +1,3 @@
+pub mod Edges
+pub mod Flips
+pub mod Words

@@ -1,0 +1,55 @@
+// The mode of a drawing, and the numbers that stand for one.
+use refusal::Refusal;
+ghost use mathlib.Core.Path.{_≡_};
+ghost use Rattle.mesh_mode.specs.Modes.{modeBy, modeOf, modeSaid, modeNumber};
+
+// What is drawn of a mesh: all edges; those where faces turn; those where what is seen of the mesh ends, with the least cosine
+// at which an edge is no crease.
+pub enum Mode {
+    Triangles,
+    Polygonal,
+    Silhouette(f64),
+}
+
+// A mode, or the refusal.
+pub enum Moded {
+    Of(Mode),
+    Refused(Refusal),
+}
+
+// The mode of a number; 0 is not said.
+fn mode_by(number: u32, cos_theta: f64) -> Moded
+    ensures { λ r. ⌜ modeSaid r ≡ modeBy number «cos_theta» ⌝ }
+{
+    if number < 2 {
+        return Moded::Of(Mode::Triangles);
+    }
+    if number == 2 {
+        return Moded::Of(Mode::Polygonal);
+    }
+    if number == 3 {
+        return Moded::Of(Mode::Silhouette(cos_theta));
+    }
+    Moded::Refused(Refusal::Number)
+}
+
+// The same where the cosine is a number, which is tested even where the mode has none.
+pub fn mode_of(number: u32, cos_theta: f64) -> Moded
+    ensures { λ r. ⌜ modeSaid r ≡ modeOf number «cos_theta» ⌝ }
+{
+    if cos_theta == cos_theta {
+        return mode_by(number, cos_theta);
+    }
+    Moded::Refused(Refusal::Number)
+}
+
+// The number of a mode, which a sheet stores.
+pub fn number_of(mode: Mode) -> u32
+    ensures { λ r. ⌜ r ≡ modeNumber mode ⌝ }
+{
+    match mode {
+        Mode::Triangles => 1,
+        Mode::Polygonal => 2,
+        Mode::Silhouette(_) => 3,
+    }
+}
