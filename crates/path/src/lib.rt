@@ -64,7 +64,7 @@ fn nothing() -> f64
 }
 
 // The number at place k, NaN past the end.
-fn number_at(points: &[f64], k: usize) -> f64
+pub fn number_at(points: &[f64], k: usize) -> f64
     ensures { λ r. ⌜ r ≡ getD (now (points .entry)) k nan ⌝ }
 {
     if k < points.len() {
@@ -90,7 +90,7 @@ pub fn point_at(points: &[f64], i: usize) -> Vector
 }
 
 // Stores a number at place k; past the end nothing.
-fn put(out: &mut [f64], k: usize, x: f64)
+pub fn put(out: &mut [f64], k: usize, x: f64)
     ensures { λ _. ⌜ now (out .exit) ≡ set (now (out .entry)) k x ⌝ }
 {
     if k < out.len() {

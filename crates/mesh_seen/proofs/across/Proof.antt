@@ -20,7 +20,7 @@ cross-requires c κs = search needs
 
 -- src/lib.rt:14:1
 returns : tie.Need-returns
-returns c = ?
+returns c = rw (c .cross .ensures, c .before .sub2 .ensures, c .before .before .sub .ensures)
 
 pub across-spec : {M : Type 1} → statement M
 across-spec = tie.close (tie.spec sub-requires sub-requires-2 cross-requires returns)
