@@ -1,7 +1,7 @@
 -- A drawing of a mesh: its kept edges, each a stroke of two, smaller first, spliced.
-use mathlib.Core.Bool.{Bool, cond}
+use mathlib.Core.Bool.{Bool, false, cond}
 use mathlib.Core.List.{List, [], _∷_, map}
-use Prim.Native.Nat.{ℕ}
+use Prim.Native.Nat.{ℕ, min, max}
 use lib.Dec.{eqb}
 use lib.Ieee.{Float}
 use Rattle.vector.specs.declared.Vector.{Vector}
@@ -10,7 +10,18 @@ use Rattle.mesh.specs.Meshes.{faceAt}
 use Rattle.mesh_mode.specs.declared.Mode.{Mode}
 use Rattle.mesh_seen.specs.Normals.{normalOf, facingOf}
 use Rattle.mesh_edges.specs.Edges.{faceOf, lowOf, highOf, edgesOf}
-use Rattle.mesh_draw.specs.Keep.{Seen, kept}
+use Rattle.mesh_edges.specs.Flips.{flipped}
+use Rattle.mesh_keep.specs.Keep.{Seen, keptBy}
+
+-- an edge of two faces is flipped where the list has the smaller face and the larger one, in this order
+unfoldable pub flipOf : List ℕ → List ℕ → Bool
+flipOf flips [] = false
+flipOf flips (f ∷ []) = false
+flipOf flips (f ∷ g ∷ []) = flipped (min f g) (max f g) flips
+flipOf flips (f ∷ g ∷ h ∷ fs) = false
+
+unfoldable pub kept : Mode → Seen → List ℕ → Float → List ℕ → Bool
+kept mode s flips tolerance fs = keptBy mode s (flipOf flips fs) tolerance fs
 
 -- what an eye sees of each face
 abbrev pub seenBy : Vector → List Float → List ℕ → Seen

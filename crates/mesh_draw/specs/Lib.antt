@@ -1,3 +1,3 @@
-pub mod Keep
 pub mod Draw
+pub mod Call
 pub mod Cases

@@ -1,0 +1,95 @@
+-- What a drawing answers and leaves in the four lists lent to it.
+use mathlib.Core.Bool.{Bool, true, false, not, _&&_}
+use mathlib.Core.List.{List, [], _∷_}
+use Prim.Native.Nat.{ℕ, _*_, _/_, _%_}
+use lib.ListN.{length, getD, replicate}
+use lib.Dec.{leb, eqb}
+use lib.Ieee.{Float}
+use Rattle.refusal.specs.declared.Refusal.the-variants.{Shape, Count, Vertex, Number, Scratch, Room, Flat}
+use Rattle.refusal.specs.declared.Verdict.{Verdict}
+use Rattle.refusal.specs.declared.Verdict.the-variants.{Accepted, Refused}
+use Rattle.refusal.specs.Refusals.{unless}
+use Rattle.refusal.specs.Said.{Said, accepted, refused}
+use Rattle.vector.specs.declared.Vector.{Vector}
+use Rattle.vector.specs.Lengths.{zero64}
+use Rattle.path.specs.Tests.{coordinatesGood}
+use Rattle.path.specs.Laid.{over, joined, startsFrom}
+use Rattle.mesh.specs.Meshes.{faceAt, shapedOf, countedOf, allBelow, vectorGood, toleranceGood}
+use Rattle.mesh_mode.specs.declared.Mode.{Mode}
+use Rattle.mesh_mode.specs.declared.Mode.the-variants.{Triangles, Polygonal, Silhouette}
+use Rattle.mesh_mode.specs.Modes.{modeOf}
+use Rattle.mesh_seen.specs.Seen.{flatFrom}
+use Rattle.mesh_draw.specs.declared.Drawing.{Drawing}
+use Rattle.mesh_draw.specs.declared.Drawing.the-variants as D
+use Rattle.mesh_draw.specs.Draw.{drawingOf}
+
+-- the answer as the paper reads it
+abbrev pub said : Drawing → Said ℕ
+said (D.Wrote points starts) = accepted (points ∷ starts ∷ [])
+said (D.Refused r) = refused r
+
+-- the mode of a number; a number that has none is refused
+abbrev pub modeGood : ℕ → Float → Bool
+modeGood number cosine = eqb (modeOf number cosine .number) 0
+
+abbrev pub modeIn : ℕ → Float → Mode
+modeIn number cosine = getD (modeOf number cosine .values) 0 Triangles
+
+-- a list of pairs
+abbrev pub paired : List ℕ → Bool
+paired flips = eqb (length flips % 2) 0
+
+-- coordinates, mode with its cosine, eye and tolerance within their ranges
+unfoldable pub numbersGood : List Float → ℕ → Float → Vector → Float → Bool
+numbersGood vs number cosine eye tolerance = coordinatesGood vs && modeGood number cosine && vectorGood eye && toleranceGood tolerance
+
+-- 64 words and 4 numbers of scratch a face
+unfoldable pub scratchFor : ℕ → ℕ → ℕ → Bool
+scratchFor faces words numbers = leb (64 * faces) words && leb (4 * faces) numbers
+
+-- room for 6 points and 3 starts a face
+unfoldable pub roomFor : ℕ → ℕ → ℕ → Bool
+roomFor faces room startRoom = leb (6 * faces) room && leb (3 * faces) startRoom
+
+-- whether a mode needs a normal that some face does not have
+unfoldable pub flatIn : Mode → List Float → List ℕ → Bool
+flatIn Triangles vs is = false
+flatIn Polygonal vs is = flatFrom (faceAt vs is) 0 (length is / 3)
+flatIn (Silhouette cosine) vs is = flatFrom (faceAt vs is) 0 (length is / 3)
+
+-- a mesh: its shape with the list of flips, its counts and its vertex numbers
+unfoldable pub meshVerdict : List Float → List ℕ → List ℕ → Verdict → Verdict
+meshVerdict vs is flips next =
+    unless (shapedOf (length vs) (length is) && paired flips) Shape
+    (unless (countedOf (length vs) (length is)) Count
+    (unless (allBelow (length vs / 3) is) Vertex
+    next))
+
+unfoldable pub verdictOf : List Float → List ℕ → List ℕ → ℕ → Float → Vector → Float → ℕ → ℕ → ℕ → ℕ → Verdict
+verdictOf vs is flips number cosine eye tolerance words numbers room startRoom =
+    meshVerdict vs is flips
+    (unless (numbersGood vs number cosine eye tolerance) Number
+    (unless (scratchFor (length is / 3) words numbers) Scratch
+    (unless (roomFor (length is / 3) room startRoom) Room
+    (unless (not (flatIn (modeIn number cosine) vs is)) Flat
+    Accepted))))
+
+pub record Left : Type 0 where
+  pub answer : Said ℕ
+  pub words : List ℕ
+  pub seen : List Float
+  pub points : List ℕ
+  pub starts : List ℕ
+
+abbrev pub left : Said ℕ → List ℕ → List Float → List ℕ → List ℕ → Left
+left a s f op os = record { answer = a; words = s; seen = f; points = op; starts = os }
+
+-- an accepted call: scratch all zero, the strokes' points in a row, the start of each, and the rest as it was; a refused one leaves all as it was
+unfoldable pub leftBy : Verdict → List (List ℕ) → List ℕ → List Float → List ℕ → List ℕ → Left
+leftBy Accepted ss s f op os =
+    left (accepted (length (joined ss) ∷ length ss ∷ [])) (replicate (length s) 0) (replicate (length f) zero64) (over op (joined ss)) (over os (startsFrom 0 ss))
+leftBy (Refused r) ss s f op os = left (refused r) s f op os
+
+unfoldable pub drawLeft : List Float → List ℕ → List ℕ → ℕ → Float → Vector → Float → List ℕ → List Float → List ℕ → List ℕ → Left
+drawLeft vs is flips number cosine eye tolerance s f op os =
+    leftBy (verdictOf vs is flips number cosine eye tolerance (length s) (length f) (length op) (length os)) (drawingOf (modeIn number cosine) eye tolerance flips vs is) s f op os
