@@ -1,2 +1,4 @@
+pub mod Tests
+pub mod Modes
 pub mod Drawn
 pub mod Cases

@@ -35,9 +35,9 @@ modeGood number cosine = eqb (modeOf number cosine .number) 0
 abbrev pub modeIn : ℕ → Float → Mode
 modeIn number cosine = getD (modeOf number cosine .values) 0 Triangles
 
--- a list of pairs
-abbrev pub paired : List ℕ → Bool
-paired flips = eqb (length flips % 2) 0
+-- so many numbers are a list of pairs
+abbrev pub paired : ℕ → Bool
+paired numbers = eqb (numbers % 2) 0
 
 -- coordinates, mode with its cosine, eye and tolerance within their ranges
 unfoldable pub numbersGood : List Float → ℕ → Float → Vector → Float → Bool
@@ -57,22 +57,22 @@ flatIn Triangles vs is = false
 flatIn Polygonal vs is = flatFrom (faceAt vs is) 0 (length is / 3)
 flatIn (Silhouette cosine) vs is = flatFrom (faceAt vs is) 0 (length is / 3)
 
--- a mesh: its shape with the list of flips, its counts and its vertex numbers
-unfoldable pub meshVerdict : List Float → List ℕ → List ℕ → Verdict → Verdict
-meshVerdict vs is flips next =
-    unless (shapedOf (length vs) (length is) && paired flips) Shape
-    (unless (countedOf (length vs) (length is)) Count
-    (unless (allBelow (length vs / 3) is) Vertex
-    next))
-
-unfoldable pub verdictOf : List Float → List ℕ → List ℕ → ℕ → Float → Vector → Float → ℕ → ℕ → ℕ → ℕ → Verdict
-verdictOf vs is flips number cosine eye tolerance words numbers room startRoom =
-    meshVerdict vs is flips
-    (unless (numbersGood vs number cosine eye tolerance) Number
+-- the tests of what a drawing works with and on
+unfoldable pub workVerdict : List Float → List ℕ → ℕ → Float → Vector → Float → ℕ → ℕ → ℕ → ℕ → Verdict
+workVerdict vs is number cosine eye tolerance words numbers room startRoom =
+    unless (numbersGood vs number cosine eye tolerance) Number
     (unless (scratchFor (length is / 3) words numbers) Scratch
     (unless (roomFor (length is / 3) room startRoom) Room
     (unless (not (flatIn (modeIn number cosine) vs is)) Flat
-    Accepted))))
+    Accepted)))
+
+-- those of a mesh, with its list of flips, come before them
+unfoldable pub verdictOf : List Float → List ℕ → ℕ → ℕ → Float → Vector → Float → ℕ → ℕ → ℕ → ℕ → Verdict
+verdictOf vs is flips number cosine eye tolerance words numbers room startRoom =
+    unless (shapedOf (length vs) (length is) && paired flips) Shape
+    (unless (countedOf (length vs) (length is)) Count
+    (unless (allBelow (length vs / 3) is) Vertex
+    (workVerdict vs is number cosine eye tolerance words numbers room startRoom)))
 
 pub record Left : Type 0 where
   pub answer : Said ℕ
@@ -92,4 +92,4 @@ leftBy (Refused r) ss s f op os = left (refused r) s f op os
 
 unfoldable pub drawLeft : List Float → List ℕ → List ℕ → ℕ → Float → Vector → Float → List ℕ → List Float → List ℕ → List ℕ → Left
 drawLeft vs is flips number cosine eye tolerance s f op os =
-    leftBy (verdictOf vs is flips number cosine eye tolerance (length s) (length f) (length op) (length os)) (drawingOf (modeIn number cosine) eye tolerance flips vs is) s f op os
+    leftBy (verdictOf vs is (length flips) number cosine eye tolerance (length s) (length f) (length op) (length os)) (drawingOf (modeIn number cosine) eye tolerance flips vs is) s f op os

@@ -1,8 +1,167 @@
 // Drawing a mesh: its kept edges, each once, spliced into strokes with as few pen lifts as those edges allow.
+use mesh::all_below;
+use mesh::counted;
+use mesh::shaped;
+use mesh::tolerance_good;
+use mesh::vector_good;
+use mesh_mode::Mode;
+use mesh_mode::Moded;
+use mesh_mode::mode_of;
+use mesh_seen::some_flat;
+use path::coordinates_good;
 use refusal::Refusal;
+use refusal::Verdict;
+use vector::Vector;
+ghost use mathlib.Core.Path.{_≡_};
+ghost use mathlib.Core.Bool.{_&&_};
+ghost use Prim.Native.Nat.{_/_, _≤_};
+ghost use lib.ListN.{length};
+ghost use Rattle.refusal.specs.Limits.{mostFaces};
+ghost use Rattle.mesh.specs.Meshes.{shapedOf};
+ghost use Rattle.mesh_draw.specs.Call.{modeGood, modeIn, paired, numbersGood, scratchFor, roomFor, flatIn, workVerdict, verdictOf};
 
 // What a drawing answers: how many points and starts were written, or the refusal.
 pub enum Drawing {
     Wrote { points: usize, starts: usize },
     Refused(Refusal),
+}
+
+// Whether a number says a mode, and the cosine is one.
+fn mode_good(number: u32, cos_theta: f64) -> bool
+    ensures { λ r. ⌜ r ≡ modeGood number «cos_theta» ⌝ }
+{
+    match mode_of(number, cos_theta) {
+        Moded::Of(_) => true,
+        Moded::Refused(_) => false,
+    }
+}
+
+// The mode that a number says.
+fn mode_in(number: u32, cos_theta: f64) -> Mode
+    ensures { λ r. ⌜ r ≡ modeIn number «cos_theta» ⌝ }
+{
+    match mode_of(number, cos_theta) {
+        Moded::Of(m) => m,
+        Moded::Refused(_) => Mode::Triangles,
+    }
+}
+
+// Whether so many numbers are vertices, indices and flips: three, three and two each.
+fn shaped_with(vertices: usize, indices: usize, flips: usize) -> bool
+    ensures { λ r. ⌜ r ≡ (shapedOf vertices indices && paired flips) ⌝ }
+{
+    if !shaped(vertices, indices) {
+        return false;
+    }
+    flips % 2 == 0
+}
+
+// Whether coordinates, mode, eye and tolerance are within their ranges.
+fn numbers_good(vertices: &[f64], number: u32, cos_theta: f64, eye: Vector, tolerance: f64) -> bool
+    ensures { λ r. ⌜ r ≡ numbersGood (now (vertices .entry)) number «cos_theta» eye tolerance ⌝ }
+{
+    if !coordinates_good(vertices) {
+        return false;
+    }
+    if !mode_good(number, cos_theta) {
+        return false;
+    }
+    if !vector_good(eye) {
+        return false;
+    }
+    tolerance_good(tolerance)
+}
+
+// Whether there are 64 words and 4 numbers of scratch a face.
+fn scratch_for(faces: usize, words: usize, numbers: usize) -> bool
+    ensures { λ r. ⌜ r ≡ scratchFor faces words numbers ⌝ }
+{
+    if words / 64 < faces {
+        return false;
+    }
+    faces <= numbers / 4
+}
+
+// Whether there is room for 6 points and 3 starts a face.
+fn room_for(faces: usize, room: usize, start_room: usize) -> bool
+    ensures { λ r. ⌜ r ≡ roomFor faces room «start_room» ⌝ }
+{
+    if room / 6 < faces {
+        return false;
+    }
+    faces <= start_room / 3
+}
+
+// Whether the mode needs a normal that some face does not have.
+fn flat_in(mode: Mode, vertices: &[f64], indices: &[u32]) -> bool
+    requires { ⌜ length (now indices) / 3 ≤ mostFaces ⌝ }
+    ensures { λ r. ⌜ r ≡ flatIn mode (now (vertices .entry)) (now (indices .entry)) ⌝ }
+{
+    let n = (indices.len() / 3) as u32;
+    match mode {
+        Mode::Triangles => false,
+        Mode::Polygonal => some_flat(vertices, indices, n),
+        Mode::Silhouette(_) => some_flat(vertices, indices, n),
+    }
+}
+
+// The tests of what a drawing works with and on. Nothing lent is touched.
+fn work_verdict(
+    vertices: &[f64],
+    indices: &[u32],
+    number: u32,
+    cos_theta: f64,
+    eye: Vector,
+    tolerance: f64,
+    words: usize,
+    numbers: usize,
+    room: usize,
+    start_room: usize,
+) -> Verdict
+    requires { ⌜ length (now indices) / 3 ≤ mostFaces ⌝ }
+    ensures { λ r. ⌜ r ≡ workVerdict (now (vertices .entry)) (now (indices .entry)) number «cos_theta» eye tolerance words numbers room «start_room» ⌝ }
+{
+    if !numbers_good(vertices, number, cos_theta, eye, tolerance) {
+        return Verdict::Refused(Refusal::Number);
+    }
+    if !scratch_for(indices.len() / 3, words, numbers) {
+        return Verdict::Refused(Refusal::Scratch);
+    }
+    if !room_for(indices.len() / 3, room, start_room) {
+        return Verdict::Refused(Refusal::Room);
+    }
+    if flat_in(mode_in(number, cos_theta), vertices, indices) {
+        return Verdict::Refused(Refusal::Flat);
+    }
+    Verdict::Accepted
+}
+
+// All tests before a drawing, the lowest number first.
+fn draw_verdict(
+    vertices: &[f64],
+    indices: &[u32],
+    flips: usize,
+    number: u32,
+    cos_theta: f64,
+    eye: Vector,
+    tolerance: f64,
+    words: usize,
+    numbers: usize,
+    room: usize,
+    start_room: usize,
+) -> Verdict
+    ensures { λ r. ⌜ r ≡ verdictOf (now (vertices .entry)) (now (indices .entry)) flips number «cos_theta» eye tolerance words numbers room «start_room» ⌝ }
+{
+    if !shaped_with(vertices.len(), indices.len(), flips) {
+        return Verdict::Refused(Refusal::Shape);
+    }
+    if !counted(vertices.len(), indices.len()) {
+        return Verdict::Refused(Refusal::Count);
+    }
+    if !all_below(indices, vertices.len() / 3) {
+        return Verdict::Refused(Refusal::Vertex);
+    }
+    work_verdict(
+        vertices, indices, number, cos_theta, eye, tolerance, words, numbers, room, start_room,
+    )
 }
