@@ -1,15 +1,16 @@
 -- Groups of neighbours with one key: the first group, and what all of them are together.
 -- Assumes nothing.
-use mathlib.Core.Path.{_≡_, refl, sym, ap, _∙_}
+use mathlib.Core.Path.{_≡_, refl, sym, ap, _∙_, subst}
 use mathlib.Core.Bool.{Bool, true, false, cond}
-use mathlib.Core.Logic.{_⊎_, inl, inr, ⊎-elim}
-use mathlib.Core.List.{List, [], _∷_, _++_}
-use Prim.Native.Nat.{ℕ, zero, suc, _+_, _-_, _<_, _≤_}
+use mathlib.Core.Logic.{_⊎_, inl, inr}
+use mathlib.Core.List.{List, [], _∷_, _++_, append-assoc}
+use Prim.Native.Nat.{ℕ, suc, _≤_}
 use native.Mathlib.Omega.{arith}
 use lib.Dec.{eqb}
-use lib.ListN.{length, take, drop, getD}
-use lib.Seq.{drop-drop}
+use lib.ListN.{length, take, drop}
+
 use Rattle.order.proofs.Tests.{truth, eqb-true}
+use Rattle.order.proofs.Sorted.{In}
 use Rattle.mesh_edges.specs.Edges.{grow, groupsOf}
 use Rattle.mesh_edges.specs.Words.{alike}
 
@@ -72,3 +73,76 @@ module _ (key : ℕ → ℕ) where
       go (inr h) e =
           rw (alike-no x y ys h)
           (groups-cons x (y ∷ ys) ∙ ap (grow key x) e ∙ grow-no x y (take (alike key y ys) ys) (groupsOf key (drop (alike key y ys) ys)) h ∙ ap (λ (gs : List (List ℕ)). (x ∷ []) ∷ gs) (sym e))
+
+-- all groups one after the other
+abbrev pub joined : List (List ℕ) → List ℕ
+joined [] = []
+joined (g ∷ gs) = g ++ joined gs
+
+pub joined-append : (a b : List (List ℕ)) → joined (a ++ b) ≡ joined a ++ joined b
+joined-append [] b = refl
+joined-append (g ∷ a) b = ap (λ (l : List ℕ). g ++ l) (joined-append a b) ∙ sym (append-assoc g (joined a) (joined b))
+
+-- neighbours of a group have one key
+abbrev pub Even : (ℕ → ℕ) → List ℕ → Type 0
+Even key [] = Unit
+Even key (x ∷ []) = Unit
+Even key (x ∷ y ∷ g) = (key x ≡ key y) × Even key (y ∷ g)
+
+abbrev pub Evens : (ℕ → ℕ) → List (List ℕ) → Type 0
+Evens key [] = Unit
+Evens key (g ∷ gs) = Even key g × Evens key gs
+
+pub evens-after : (key : ℕ → ℕ) (a b : List (List ℕ)) → Evens key (a ++ b) → Evens key b
+evens-after key [] b h = h
+evens-after key (g ∷ a) b h = evens-after key a b (h .1)
+
+module _ (key : ℕ → ℕ) where
+  join-grow : (x : ℕ) (gs : List (List ℕ)) → joined (grow key x gs) ≡ x ∷ joined gs
+  unfolding grow
+  join-grow x [] = refl
+  join-grow x ([] ∷ gs) = refl
+  join-grow x ((y ∷ g) ∷ gs) = go (eqb (key x) (key y))
+    where
+      go : (b : Bool) → joined (cond b ((x ∷ y ∷ g) ∷ gs) ((x ∷ []) ∷ (y ∷ g) ∷ gs)) ≡ x ∷ y ∷ (g ++ joined gs)
+      go true = refl
+      go false = refl
+
+  pub join-groups : (l : List ℕ) → joined (groupsOf key l) ≡ l
+  unfolding groupsOf
+  join-groups [] = refl
+  join-groups (x ∷ l) = join-grow x (groupsOf key l) ∙ ap (λ (r : List ℕ). x ∷ r) (join-groups l)
+
+  even-grow : (x : ℕ) (gs : List (List ℕ)) → Evens key gs → Evens key (grow key x gs)
+  unfolding grow
+  even-grow x [] h = (tt, tt)
+  even-grow x ([] ∷ gs) h = (tt, h .1)
+  even-grow x ((y ∷ g) ∷ gs) h = go (eqb (key x) (key y)) refl
+    where
+      go : (b : Bool) → eqb (key x) (key y) ≡ b → Evens key (cond b ((x ∷ y ∷ g) ∷ gs) ((x ∷ []) ∷ (y ∷ g) ∷ gs))
+      go true e = ((eqb-true (key x) (key y) e, h .0), h .1)
+      go false e = (tt, h)
+
+  pub even-groups : (l : List ℕ) → Evens key (groupsOf key l)
+  unfolding groupsOf
+  even-groups [] = tt
+  even-groups (x ∷ l) = even-grow x (groupsOf key l) (even-groups l)
+
+-- keys that agree on the numbers of a list
+module _ (k l : ℕ → ℕ) where
+  pub alike-agree : (x : ℕ) (ys : List ℕ) → k x ≡ l x → ((y : ℕ) → In y ys → k y ≡ l y) → alike k x ys ≡ alike l x ys
+  unfolding alike
+  alike-agree x [] e h = refl
+  alike-agree x (y ∷ ys) e h = rw (e, h y (inl refl), alike-agree x ys e (λ z i. h z (inr i)))
+
+  grow-agree : (x : ℕ) (gs : List (List ℕ)) → k x ≡ l x → ((y : ℕ) → In y (joined gs) → k y ≡ l y) → grow k x gs ≡ grow l x gs
+  unfolding grow
+  grow-agree x [] e h = refl
+  grow-agree x ([] ∷ gs) e h = refl
+  grow-agree x ((y ∷ g) ∷ gs) e h = rw (e, h y (inl refl))
+
+  pub groups-agree : (s : List ℕ) → ((y : ℕ) → In y s → k y ≡ l y) → groupsOf k s ≡ groupsOf l s
+  unfolding groupsOf
+  groups-agree [] h = refl
+  groups-agree (x ∷ s) h =
+      grow-agree x (groupsOf k s) (h x (inl refl)) (λ y i. h y (inr (subst (In y) (join-groups k s) i))) ∙ ap (grow l x) (groups-agree s (λ y i. h y (inr i)))

@@ -1,2 +1,6 @@
 pub mod Groups
 pub mod Ends
+pub mod Ups
+pub mod Mates
+pub mod Flags
+pub mod Said

@@ -1,3 +1,4 @@
 pub mod Edges
 pub mod Flips
 pub mod Words
+pub mod Steps
