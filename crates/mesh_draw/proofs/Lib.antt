@@ -1,4 +1,5 @@
 pub mod Tests
 pub mod Modes
+pub mod Walks
 pub mod Drawn
 pub mod Cases

@@ -1,3 +1,4 @@
 pub mod Draw
+pub mod Walk
 pub mod Call
 pub mod Cases

@@ -4,6 +4,8 @@ use mesh::counted;
 use mesh::shaped;
 use mesh::tolerance_good;
 use mesh::vector_good;
+use mesh_edges::edge_end;
+use mesh_keep::kept;
 use mesh_mode::Mode;
 use mesh_mode::Moded;
 use mesh_mode::mode_of;
@@ -14,10 +16,13 @@ use refusal::Verdict;
 use vector::Vector;
 ghost use mathlib.Core.Path.{_≡_};
 ghost use mathlib.Core.Bool.{_&&_};
-ghost use Prim.Native.Nat.{_/_, _≤_};
-ghost use lib.ListN.{length};
+ghost use Prim.Native.Nat.{_+_, _-_, _*_, _/_, _<_, _≤_};
+ghost use lib.ListN.{length, getD};
 ghost use Rattle.refusal.specs.Limits.{mostFaces};
+ghost use Rattle.order.specs.Regions.{region};
 ghost use Rattle.mesh.specs.Meshes.{shapedOf};
+ghost use Rattle.mesh_keep.specs.Keep.{keptBy, facesOf, seenIn};
+ghost use Rattle.mesh_draw.specs.Walk.{Room, Listed, flipAt, withPair, written, edgeKept, KeptIn};
 ghost use Rattle.mesh_draw.specs.Call.{modeGood, modeIn, paired, numbersGood, scratchFor, roomFor, flatIn, workVerdict, verdictOf};
 
 // What a drawing answers: how many points and starts were written, or the refusal.
@@ -164,4 +169,71 @@ fn draw_verdict(
     work_verdict(
         vertices, indices, number, cos_theta, eye, tolerance, words, numbers, room, start_room,
     )
+}
+
+// Whether the mode keeps the edge of the sides at the places from p up to q.
+fn keeps(mode: Mode, seen: &[f64], s: &[u32], n: usize, tolerance: f64, p: usize, q: usize) -> bool
+    requires { ⌜ Room (now s) n ⌝ }
+    requires { ⌜ (p < q) × (q ≤ n) × (getD (now s) (2 * n + p) 0 < n) ⌝ }
+    ensures { λ r. ⌜ r ≡ keptBy mode (seenIn (now (seen .entry))) (flipAt (now (s .entry)) n p) tolerance (facesOf (region (now (s .entry)) (2 * n + p) (q - p))) ⌝ }
+{
+    let k = s[2 * n + p] as usize;
+    let flip = s[4 * n + k] == 1;
+    let a = 2 * n + p;
+    let b = 2 * n + q;
+    kept(mode, seen, &s[a..b], flip, tolerance)
+}
+
+// Writes the pair of the side at place p as pair m, past the words of the sides.
+fn put_pair(s: &mut [u32], n: usize, p: usize, m: usize)
+    requires { ⌜ Room (now s) n ⌝ }
+    requires { ⌜ (p < n) × (m < n) × (getD (now s) (2 * n + p) 0 < n) ⌝ }
+    ensures { λ _. ⌜ now (s .exit) ≡ withPair (now (s .entry)) n (getD (now (s .entry)) (2 * n + p) 0) m ⌝ }
+{
+    let k = s[2 * n + p] as usize;
+    let low = s[k];
+    let high = s[n + k];
+    s[5 * n + 2 * m] = low;
+    s[5 * n + 2 * m + 1] = high;
+}
+
+// Writes the edge at the places from p up to q after m pairs where it is kept, and answers how many pairs there are then.
+fn keep_edge(
+    mode: Mode,
+    seen: &[f64],
+    s: &mut [u32],
+    n: usize,
+    tolerance: f64,
+    p: usize,
+    q: usize,
+    m: usize,
+) -> usize
+    requires { ⌜ Room (now s) n ⌝ }
+    requires { ⌜ (p < q) × (q ≤ n) × (m ≤ p) × (getD (now s) (2 * n + p) 0 < n) ⌝ }
+    ensures { λ r. ⌜ written r (now (s .exit)) ≡ edgeKept
+        (keptBy mode (seenIn (now (seen .entry))) (flipAt (now (s .entry)) n p) tolerance (facesOf (region (now (s .entry)) (2 * n + p) (q - p))))
+        (now (s .entry)) n (getD (now (s .entry)) (2 * n + p) 0) m ⌝ }
+    ensures { λ r. ⌜ r ≤ m + 1 ⌝ }
+{
+    if keeps(mode, seen, s, n, tolerance, p, q) {
+        put_pair(s, n, p, m);
+        return m + 1;
+    }
+    m
+}
+
+// Writes the kept edges as pairs, past the words of the sides, and answers how many there are.
+fn keep_edges(mode: Mode, seen: &[f64], indices: &[u32], s: &mut [u32], tolerance: f64) -> usize
+    requires { ⌜ Room (now s) (length (now indices)) ⌝ }
+    requires { ⌜ Listed (now indices) (now s) ⌝ }
+    ensures { λ r. ⌜ KeptIn mode (now (seen .entry)) tolerance (now (indices .entry)) (now (s .entry)) (now (s .exit)) r ⌝ }
+{
+    let mut p: usize = 0;
+    let mut m: usize = 0;
+    while p < indices.len() {
+        let q = edge_end(s, indices.len(), p);
+        m = keep_edge(mode, seen, s, indices.len(), tolerance, p, q, m);
+        p = q;
+    }
+    m
 }

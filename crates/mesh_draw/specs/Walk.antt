@@ -1,0 +1,53 @@
+-- The walk over the edges in scratch. With n sides their words lie up to 5 n (mesh_edges/specs/Words); the kept edges follow, two numbers each.
+use mathlib.Core.Path.{_≡_}
+use mathlib.Core.Bool.{Bool, cond}
+use mathlib.Core.List.{List, _++_}
+use Prim.Native.Nat.{ℕ, _+_, _*_, _≤_}
+use lib.ListN.{length, getD, set, take}
+use lib.Dec.{eqb}
+use lib.Ieee.{Float}
+use Rattle.refusal.specs.Limits.{mostFaces}
+use Rattle.order.specs.Regions.{region}
+use Rattle.path_splice.specs.Pairs.{pairsOf}
+use Rattle.mesh_mode.specs.declared.Mode.{Mode}
+use Rattle.mesh_edges.specs.Edges.{edgesOf}
+use Rattle.mesh_edges.specs.Words.{wordsOf}
+use Rattle.mesh_keep.specs.Keep.{seenIn}
+use Rattle.mesh_draw.specs.Draw.{kept, strokesBy}
+
+-- room for n sides, and for as many strokes to be spliced
+pub record Room (s : List ℕ) (n : ℕ) : Type 0 where
+  pub few : n ≤ 3 * mostFaces
+  pub long : 13 * n ≤ length s
+
+-- the words of the sides of a mesh, for some list of flips
+pub record Listed (is s : List ℕ) : Type 0 where
+  pub flips : List ℕ
+  pub words : take (5 * length is) s ≡ wordsOf is flips
+
+-- whether the edge at place p is flipped
+abbrev pub flipAt : List ℕ → ℕ → ℕ → Bool
+flipAt s n p = eqb (getD s (4 * n + getD s (2 * n + p) 0) 0) 1
+
+-- side k written as pair m
+unfoldable pub withPair : List ℕ → ℕ → ℕ → ℕ → List ℕ
+withPair s n k m = set (set s (5 * n + 2 * m) (getD s k 0)) (5 * n + 2 * m + 1) (getD s (n + k) 0)
+
+-- how many pairs there are, and the words
+pub record Written : Type 0 where
+  pub count : ℕ
+  pub words : List ℕ
+
+abbrev pub written : ℕ → List ℕ → Written
+written m s = record { count = m; words = s }
+
+-- an edge with side k, written after m pairs if it is kept
+unfoldable pub edgeKept : Bool → List ℕ → ℕ → ℕ → ℕ → Written
+edgeKept keep s n k m = cond keep (written (m + 1) (withPair s n k m)) (written m s)
+
+-- r pairs follow the words of the sides: the kept edges
+pub record KeptIn (mode : Mode) (seen : List Float) (tolerance : Float) (is s s′ : List ℕ) (r : ℕ) : Type 0 where
+  pub size : length s′ ≡ length s
+  pub few : r ≤ length is
+  pub pairs : (flips : List ℕ) → take (5 * length is) s ≡ wordsOf is flips
+    → pairsOf (region s′ (5 * length is) (2 * r)) ≡ strokesBy (kept mode (seenIn seen) flips tolerance) is (edgesOf is)
