@@ -4,3 +4,4 @@ pub mod Ups
 pub mod Mates
 pub mod Flags
 pub mod Said
+pub mod Filling

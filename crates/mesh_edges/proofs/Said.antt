@@ -1,22 +1,21 @@
 -- Where the words of the edges lie, and what they say.
 -- Assumes nothing.
-use mathlib.Core.Path.{_≡_, refl, sym, ap, _∙_, subst}
+use mathlib.Core.Path.{_≡_, refl, sym, ap, _∙_}
+use mathlib.Core.Bool.{Bool, true, false, cond, _&&_}
 use mathlib.Core.Logic.{inl, inr}
 use mathlib.Core.List.{List, [], _∷_, _++_, map}
 use Prim.Native.Nat.{ℕ, zero, suc, _+_, _-_, _*_, _<_, _≤_}
 use native.Mathlib.Omega.{arith}
-use lib.ListN.{length, getD, take, drop, replicate, length-append, length-take, length-replicate, take-append-drop}
-use lib.Seq.{take-take, getD-take, getD-drop, ext-getD, length-take-le, getD-append-add}
-use lib.ListN.{List·getD-append}
+use lib.ListN.{length, getD, take, drop, replicate, length-append, length-take, length-replicate, List·getD-append}
+use lib.Seq.{getD-take, ext-getD, getD-append-add}
 use borrow.Author.Tests.{le-leb}
 use lib.Dec.{leb}
 use Rattle.refusal.specs.Limits.{mostFaces}
 use Rattle.order.specs.Regions.{region, put}
-use Rattle.order.proofs.Parts.{length-region, get-region, region-put, get-off}
-use Rattle.order.proofs.Sorted.{In, in-at, at-in}
+use Rattle.order.proofs.Parts.{length-put, length-region, get-region, region-put, get-off}
+use Rattle.order.proofs.Sorted.{In}
 use Rattle.mesh_edges.specs.Edges.{lowOf, highOf, pairOf, upFrom, sidesOf}
 use Rattle.mesh_edges.specs.Words.{flagOf, wordsOf, edgesIn, pairIn, alike, endIn}
-use Rattle.mesh_edges.specs.Steps.{plainWords}
 use Rattle.mesh_edges.proofs.Ups.{map-at, map-length, sides-length, side-below, sides-below}
 use Rattle.mesh_edges.proofs.Groups.{alike-agree}
 use Rattle.mesh_edges.proofs.Ends.{end-from}
@@ -135,3 +134,75 @@ module _ (t is d f : List ℕ) (ld : length d ≡ length is) (lf : length f ≡ 
       end-from t n said-long p h ∙ ap (λ (z : ℕ). p + 1 + alike (pairIn t n) z (drop (p + 1) (region t (2 * n) n))) (said-side p h)
       ∙ ap (λ (l : List ℕ). p + 1 + alike (pairIn t n) x (drop (p + 1) l)) said-sides
       ∙ ap (λ (z : ℕ). p + 1 + z) (alike-agree (pairIn t n) (pairOf is) x (drop (p + 1) (sidesOf is)) (said-pair x (side-below is p h)) (λ y i. said-pair y (sides-below is y (in-drop (p + 1) (sidesOf is) y i))))
+
+-- a list that begins with the words of the edges: for callers
+module _ (t is flips : List ℕ) (e : take (5 * length is) t ≡ wordsOf is flips) where
+  abbrev zeros : List ℕ
+  zeros = replicate (length is) 0
+
+  abbrev flags : List ℕ
+  flags = map (flagOf is flips) (upFrom 0 (length is))
+
+  words : take (5 * length is) t ≡ map (lowOf is) (upFrom 0 (length is)) ++ map (highOf is) (upFrom 0 (length is)) ++ sidesOf is ++ replicate (length is) 0 ++ map (flagOf is flips) (upFrom 0 (length is))
+  unfolding wordsOf
+  words = e
+
+  lz : length zeros ≡ length is
+  lz = length-replicate {A = ℕ} (length is) 0
+
+  lg : length flags ≡ length is
+  lg = map-length (flagOf is flips) (length is)
+
+  pub words-long : 5 * length is ≤ length t
+  words-long = said-long t is zeros flags lz lg words
+
+  pub words-low : (k : ℕ) → k < length is → getD t k 0 ≡ lowOf is k
+  words-low = said-low t is zeros flags lz lg words
+
+  pub words-high : (k : ℕ) → k < length is → getD t (length is + k) 0 ≡ highOf is k
+  words-high = said-high t is zeros flags lz lg words
+
+  pub words-pair : (k : ℕ) → k < length is → pairIn t (length is) k ≡ pairOf is k
+  words-pair = said-pair t is zeros flags lz lg words
+
+  pub words-sides : region t (2 * length is) (length is) ≡ sidesOf is
+  words-sides = said-sides t is zeros flags lz lg words
+
+  pub words-side : (p : ℕ) → p < length is → getD t (2 * length is + p) 0 ≡ getD (sidesOf is) p 0
+  words-side = said-side t is zeros flags lz lg words
+
+  pub words-flag : (k : ℕ) → k < length is → getD t (4 * length is + k) 0 ≡ flagOf is flips k
+  words-flag k h = said-flag t is zeros flags lz lg words k h ∙ map-at (flagOf is flips) (length is) k h
+
+  pub words-end : (p : ℕ) → p < length is → endIn t (length is) p ≡ p + 1 + alike (pairOf is) (getD (sidesOf is) p 0) (drop (p + 1) (sidesOf is))
+  words-end = said-end t is zeros flags lz lg words
+
+pub words-length : (is flips : List ℕ) → length (wordsOf is flips) ≡ 5 * length is
+unfolding wordsOf
+words-length is flips =
+    let n = length is in
+    let a = map (lowOf is) (upFrom 0 n) in
+    let b = map (highOf is) (upFrom 0 n) in
+    let g = map (flagOf is flips) (upFrom 0 n) in
+    omega (arith, length-append (a ++ b ++ sidesOf is ++ replicate n 0) g, length-append (a ++ b ++ sidesOf is) (replicate n 0), length-append (a ++ b) (sidesOf is), length-append a b,
+      map-length (lowOf is) n, map-length (highOf is) n, sides-length is, length-replicate {A = ℕ} n 0, map-length (flagOf is flips) n)
+
+-- what `edges` leaves
+module _ (s is flips : List ℕ) (few : length is ≤ 3 * mostFaces) (room : 5 * length is ≤ length s) where
+  pub edges-put : edgesIn s is flips ≡ put s 0 (wordsOf is flips)
+  unfolding edgesIn
+  edges-put = rw (le-leb (length is) (3 * mostFaces) few, le-leb (5 * length is) (length s) room)
+
+  pub edges-words : take (5 * length is) (edgesIn s is flips) ≡ wordsOf is flips
+  edges-words = ap (take (5 * length is)) edges-put ∙ region-put s 0 (5 * length is) (wordsOf is flips) (words-length is flips) (omega arith)
+
+  pub edges-rest : (j : ℕ) → 5 * length is ≤ j → getD (edgesIn s is flips) j 0 ≡ getD s j 0
+  edges-rest j h = ap (λ (l : List ℕ). getD l j 0) edges-put ∙ get-off s 0 (wordsOf is flips) j (inr (omega (arith, words-length is flips)))
+
+pub edges-length : (s is flips : List ℕ) → length (edgesIn s is flips) ≡ length s
+unfolding edgesIn
+edges-length s is flips = go (leb (length is) (3 * mostFaces) && leb (5 * length is) (length s))
+  where
+    go : (b : Bool) → length (cond b (put s 0 (wordsOf is flips)) s) ≡ length s
+    go true = length-put s 0 (wordsOf is flips)
+    go false = refl
