@@ -1,5 +1,6 @@
 pub mod Tests
 pub mod Modes
 pub mod Walks
+pub mod Seens
 pub mod Drawn
 pub mod Cases

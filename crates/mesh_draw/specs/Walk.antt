@@ -1,15 +1,19 @@
 -- The walk over the edges in scratch. With n sides their words lie up to 5 n (mesh_edges/specs/Words); the kept edges follow, two numbers each.
 use mathlib.Core.Path.{_≡_}
 use mathlib.Core.Bool.{Bool, cond}
-use mathlib.Core.List.{List, _++_}
-use Prim.Native.Nat.{ℕ, _+_, _*_, _≤_}
+use mathlib.Core.List.{List, []}
+use Prim.Native.Nat.{ℕ, _+_, _*_, _/_, _≤_}
 use lib.ListN.{length, getD, set, take}
 use lib.Dec.{eqb}
 use lib.Ieee.{Float}
 use Rattle.refusal.specs.Limits.{mostFaces}
 use Rattle.order.specs.Regions.{region}
+use Rattle.vector.specs.declared.Vector.{Vector}
 use Rattle.path_splice.specs.Pairs.{pairsOf}
+use Rattle.mesh.specs.Meshes.{faceAt}
 use Rattle.mesh_mode.specs.declared.Mode.{Mode}
+use Rattle.mesh_mode.specs.declared.Mode.the-variants.{Triangles, Polygonal, Silhouette}
+use Rattle.mesh_seen.specs.Seen.{seenFrom}
 use Rattle.mesh_edges.specs.Edges.{edgesOf}
 use Rattle.mesh_edges.specs.Words.{wordsOf}
 use Rattle.mesh_keep.specs.Keep.{seenIn}
@@ -51,3 +55,15 @@ pub record KeptIn (mode : Mode) (seen : List Float) (tolerance : Float) (is s s�
   pub few : r ≤ length is
   pub pairs : (flips : List ℕ) → take (5 * length is) s ≡ wordsOf is flips
     → pairsOf (region s′ (5 * length is) (2 * r)) ≡ strokesBy (kept mode (seenIn seen) flips tolerance) is (edgesOf is)
+
+-- what is stored of the faces for a mode: triangles need nothing
+unfoldable pub lookIn : Mode → Vector → List Float → List ℕ → List Float → List Float
+lookIn Triangles eye vs is l = l
+lookIn Polygonal eye vs is l = seenFrom eye (faceAt vs is) 0 (length is / 3) l
+lookIn (Silhouette cosine) eye vs is l = seenFrom eye (faceAt vs is) 0 (length is / 3) l
+
+-- the flips that matter to a mode
+unfoldable pub flipsFor : Mode → List ℕ → List ℕ
+flipsFor Triangles flips = []
+flipsFor Polygonal flips = []
+flipsFor (Silhouette cosine) flips = flips

@@ -5,10 +5,12 @@ use mesh::shaped;
 use mesh::tolerance_good;
 use mesh::vector_good;
 use mesh_edges::edge_end;
+use mesh_edges::edges;
 use mesh_keep::kept;
 use mesh_mode::Mode;
 use mesh_mode::Moded;
 use mesh_mode::mode_of;
+use mesh_seen::see;
 use mesh_seen::some_flat;
 use path::coordinates_good;
 use refusal::Refusal;
@@ -21,8 +23,9 @@ ghost use lib.ListN.{length, getD};
 ghost use Rattle.refusal.specs.Limits.{mostFaces};
 ghost use Rattle.order.specs.Regions.{region};
 ghost use Rattle.mesh.specs.Meshes.{shapedOf};
+ghost use Rattle.mesh_edges.specs.Words.{edgesIn};
 ghost use Rattle.mesh_keep.specs.Keep.{keptBy, facesOf, seenIn};
-ghost use Rattle.mesh_draw.specs.Walk.{Room, Listed, flipAt, withPair, written, edgeKept, KeptIn};
+ghost use Rattle.mesh_draw.specs.Walk.{Room, Listed, flipAt, withPair, written, edgeKept, KeptIn, lookIn, flipsFor};
 ghost use Rattle.mesh_draw.specs.Call.{modeGood, modeIn, paired, numbersGood, scratchFor, roomFor, flatIn, workVerdict, verdictOf};
 
 // What a drawing answers: how many points and starts were written, or the refusal.
@@ -236,4 +239,38 @@ fn keep_edges(mode: Mode, seen: &[f64], indices: &[u32], s: &mut [u32], toleranc
         p = q;
     }
     m
+}
+
+// Stores what the mode needs to know of the faces; for triangles that is nothing.
+fn look(mode: Mode, vertices: &[f64], indices: &[u32], eye: Vector, seen: &mut [f64])
+    requires { ⌜ length (now indices) / 3 ≤ mostFaces ⌝ }
+    ensures { λ _. ⌜ now (seen .exit) ≡ lookIn mode eye (now (vertices .entry)) (now (indices .entry)) (now (seen .entry)) ⌝ }
+{
+    let n = (indices.len() / 3) as u32;
+    match mode {
+        Mode::Triangles => {}
+        Mode::Polygonal => {
+            see(vertices, indices, eye, n, seen);
+        }
+        Mode::Silhouette(_) => {
+            see(vertices, indices, eye, n, seen);
+        }
+    }
+}
+
+// Writes the sides by their pairs, with the flips that matter to the mode.
+fn list_edges(mode: Mode, indices: &[u32], flips: &[u32], s: &mut [u32])
+    ensures { λ _. ⌜ now (s .exit) ≡ edgesIn (now (s .entry)) (now (indices .entry)) (flipsFor mode (now (flips .entry))) ⌝ }
+{
+    match mode {
+        Mode::Triangles => {
+            edges(indices, &flips[..0], s);
+        }
+        Mode::Polygonal => {
+            edges(indices, &flips[..0], s);
+        }
+        Mode::Silhouette(_) => {
+            edges(indices, flips, s);
+        }
+    }
 }
