@@ -5,3 +5,4 @@ pub mod Mates
 pub mod Flags
 pub mod Said
 pub mod Filling
+pub mod Mating

@@ -2,13 +2,13 @@
 use order::clear;
 use order::sort_words;
 ghost use mathlib.Core.Path.{_≡_};
-ghost use Prim.Native.Nat.{ℕ, _+_, _*_, _<_, _≤_};
+ghost use Prim.Native.Nat.{ℕ, _+_, _-_, _*_, _<_, _≤_};
 ghost use lib.ListN.{length, getD};
 ghost use Rattle.refusal.specs.Limits.{mostFaces};
-ghost use Rattle.order.specs.Regions.{put};
-ghost use Rattle.mesh_edges.specs.Edges.{nextCorner, lowOf, highOf};
+ghost use Rattle.order.specs.Regions.{region, put};
+ghost use Rattle.mesh_edges.specs.Edges.{nextCorner, lowOf, highOf, groupsOf};
 ghost use Rattle.mesh_edges.specs.Words.{endIn, pairIn};
-ghost use Rattle.mesh_edges.specs.Steps.{sidesTo, byPairs, plainWords};
+ghost use Rattle.mesh_edges.specs.Steps.{sidesTo, byPairs, plainWords, Below, mark, marks};
 
 // The word at place i, 0 past the end.
 fn word_in(s: &[u32], i: usize) -> u64
@@ -133,4 +133,31 @@ fn sides(indices: &[u32], s: &mut [u32], n: usize)
     let a = 4 * n;
     let e = 5 * n;
     clear(&mut s[a..e]);
+}
+
+// Where the sides from place p up to q are two, writes the second, plus 1, as the mate of the first.
+fn mate(s: &mut [u32], n: usize, p: usize, q: usize)
+    requires { ⌜ (5 * n ≤ length (now s)) × (n ≤ 3 * mostFaces) × (p < q) × (q ≤ n) ⌝ }
+    requires { ⌜ Below (now s) n ⌝ }
+    ensures { λ _. ⌜ now (s .exit) ≡ put (now (s .entry)) (3 * n) (mark (region (region (now (s .entry)) (2 * n) n) p (q - p)) (region (now (s .entry)) (3 * n) n)) ⌝ }
+{
+    if q != p + 2 {
+        return;
+    }
+    let i = 3 * n + s[2 * n + p] as usize;
+    s[i] = s[2 * n + p + 1] + 1;
+}
+
+// Writes the mates, edge after edge.
+fn write_mates(s: &mut [u32], n: usize)
+    requires { ⌜ (5 * n ≤ length (now s)) × (n ≤ 3 * mostFaces) ⌝ }
+    requires { ⌜ Below (now s) n ⌝ }
+    ensures { λ _. ⌜ now (s .exit) ≡ put (now (s .entry)) (3 * n) (marks (groupsOf (pairIn (now (s .entry)) n) (region (now (s .entry)) (2 * n) n)) (region (now (s .entry)) (3 * n) n)) ⌝ }
+{
+    let mut p: usize = 0;
+    while p < n {
+        let q = edge_end(s, n, p);
+        mate(s, n, p, q);
+        p = q;
+    }
 }
