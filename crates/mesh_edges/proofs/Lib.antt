@@ -6,3 +6,5 @@ pub mod Flags
 pub mod Said
 pub mod Filling
 pub mod Mating
+pub mod Flipping
+pub mod Edging
