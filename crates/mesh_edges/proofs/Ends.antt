@@ -24,8 +24,8 @@ module _ (s : List ℕ) (n : ℕ) (H : 5 * n ≤ length s) where
   long : length R ≡ n
   long = length-region s (2 * n) n (omega arith)
 
-  at : (q : ℕ) → q < n → drop q R ≡ getD s (2 * n + q) 0 ∷ drop (q + 1) R
-  at q h = rw (add-one q) (drop-cons R q 0 (omega (arith, long)) ∙ ap (λ (z : ℕ). z ∷ drop (suc q) R) (get-region s (2 * n) n q h))
+  pub sides-at : (q : ℕ) → q < n → drop q R ≡ getD s (2 * n + q) 0 ∷ drop (q + 1) R
+  sides-at q h = rw (add-one q) (drop-cons R q 0 (omega (arith, long)) ∙ ap (λ (z : ℕ). z ∷ drop (suc q) R) (get-region s (2 * n) n q h))
 
   -- the end, as what is found up to q says it
   abbrev pub from : ℕ → ℕ → ℕ
@@ -35,13 +35,13 @@ module _ (s : List ℕ) (n : ℕ) (H : 5 * n ≤ length s) where
   from-more x q h e =
       let y = getD s (2 * n + q) 0 in
       let k : alike (pairIn s n) x (drop q R) ≡ suc (alike (pairIn s n) x (drop (q + 1) R)) =
-      ap (alike (pairIn s n) x) (at q h) ∙ alike-yes (pairIn s n) x y (drop (q + 1) R) (ap (eqb (pairIn s n x)) (sym e) ∙ eqb-self (pairIn s n x)) in
+      ap (alike (pairIn s n) x) (sides-at q h) ∙ alike-yes (pairIn s n) x y (drop (q + 1) R) (ap (eqb (pairIn s n x)) (sym e) ∙ eqb-self (pairIn s n x)) in
       omega (arith, k)
 
   pub from-stop : (x q : ℕ) → q < n → pairIn s n x ≢ pairIn s n (getD s (2 * n + q) 0) → q ≡ from x q
   from-stop x q h e =
       let y = getD s (2 * n + q) 0 in
-      let k : alike (pairIn s n) x (drop q R) ≡ 0 = ap (alike (pairIn s n) x) (at q h) ∙ alike-no (pairIn s n) x y (drop (q + 1) R) (eqb-false (pairIn s n x) (pairIn s n y) e) in
+      let k : alike (pairIn s n) x (drop q R) ≡ 0 = ap (alike (pairIn s n) x) (sides-at q h) ∙ alike-no (pairIn s n) x y (drop (q + 1) R) (eqb-false (pairIn s n x) (pairIn s n y) e) in
       omega (arith, k)
 
   pub from-all : (x q : ℕ) → n ≤ q → q ≡ from x q

@@ -8,7 +8,6 @@ use Prim.Native.Nat.{ℕ, suc, _≤_}
 use native.Mathlib.Omega.{arith}
 use lib.Dec.{eqb}
 use lib.ListN.{length, take, drop}
-
 use Rattle.order.proofs.Tests.{truth, eqb-true}
 use Rattle.order.proofs.Sorted.{In}
 use Rattle.mesh_edges.specs.Edges.{grow, groupsOf}

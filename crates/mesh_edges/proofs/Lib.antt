@@ -5,3 +5,6 @@ pub mod Mates
 pub mod Flags
 pub mod Said
 pub mod Filling
+pub mod Mating
+pub mod Flipping
+pub mod Edging

@@ -184,8 +184,18 @@ words-length is flips =
     let a = map (lowOf is) (upFrom 0 n) in
     let b = map (highOf is) (upFrom 0 n) in
     let g = map (flagOf is flips) (upFrom 0 n) in
-    omega (arith, length-append (a ++ b ++ sidesOf is ++ replicate n 0) g, length-append (a ++ b ++ sidesOf is) (replicate n 0), length-append (a ++ b) (sidesOf is), length-append a b,
-      map-length (lowOf is) n, map-length (highOf is) n, sides-length is, length-replicate {A = ℕ} n 0, map-length (flagOf is flips) n)
+    omega (
+      arith,
+      length-append (a ++ b ++ sidesOf is ++ replicate n 0) g,
+      length-append (a ++ b ++ sidesOf is) (replicate n 0),
+      length-append (a ++ b) (sidesOf is),
+      length-append a b,
+      map-length (lowOf is) n,
+      map-length (highOf is) n,
+      sides-length is,
+      length-replicate {A = ℕ} n 0,
+      map-length (flagOf is flips) n,
+    )
 
 -- what `edges` leaves
 module _ (s is flips : List ℕ) (few : length is ≤ 3 * mostFaces) (room : 5 * length is ≤ length s) where

@@ -1,7 +1,7 @@
 -- What the steps of `edges` write: sides as they come, the order, mates, and flags.
 use mathlib.Core.Bool.{Bool, false, cond}
 use mathlib.Core.List.{List, [], _∷_, _++_, map}
-use Prim.Native.Nat.{ℕ, zero, suc, _+_, _*_}
+use Prim.Native.Nat.{ℕ, zero, suc, _+_, _*_, _<_}
 use lib.ListN.{length, getD, set, replicate}
 use lib.Dec.{eqb}
 use Rattle.order.specs.Order.{order, pairKey}
@@ -21,6 +21,10 @@ unfoldable pub plainWords : List ℕ → List ℕ
 plainWords is =
     let n = length is in
     map (lowOf is) (upFrom 0 n) ++ map (highOf is) (upFrom 0 n) ++ sidesOf is ++ replicate n 0 ++ replicate n 0
+
+-- the n numbers from 2 n on are sides
+abbrev pub Below : List ℕ → ℕ → Type 0
+Below s n = (k : ℕ) → k < n → getD s (2 * n + k) 0 < n
 
 -- of two sides the second one, plus 1, at the place of the first; any other number of sides changes nothing
 unfoldable pub mark : List ℕ → List ℕ → List ℕ

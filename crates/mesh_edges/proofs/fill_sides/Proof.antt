@@ -69,10 +69,12 @@ loop-again c =
     let s0 = z .args .s .now in
     let is = z .args .indices .now in
     let n = z .args .n in
-    let k = l .k in
-    (omega arith, rw (length-set, length-set, length-set) (l .inv .1),
+    let k = l .k in (
+      omega arith,
+      rw (length-set, length-set, length-set) (l .inv .1),
       ap (λ (x : ℕ). set (set (set (l .s) k x) (n + k) (c .high-of .result)) (2 * n + k) k) (c .before .low-of .ensures) ∙ ap (λ (x : ℕ). set (set (set (l .s) k (lowOf is k)) (n + k) x) (2 * n + k) k) (c .high-of .ensures)
-      ∙ ap (λ (t : List ℕ). set (set (set t k (lowOf is k)) (n + k) (highOf is k)) (2 * n + k) k) (l .inv .2) ∙ fill-more s0 is n k (c .before .before .loop-test .taken))
+          ∙ ap (λ (t : List ℕ). set (set (set t k (lowOf is k)) (n + k) (highOf is k)) (2 * n + k) k) (l .inv .2) ∙ fill-more s0 is n k (c .before .before .loop-test .taken),
+    )
 
 same-length : tie.Need-same-length Inv-loop μ-loop
 same-length c = c .before .loop .inv .1
