@@ -2,7 +2,7 @@
 use mathlib.Core.Path.{_≡_}
 use mathlib.Core.Bool.{Bool, cond}
 use mathlib.Core.List.{List, []}
-use Prim.Native.Nat.{ℕ, _+_, _*_, _/_, _≤_}
+use Prim.Native.Nat.{ℕ, _+_, _*_, _/_, _%_, _≤_}
 use lib.ListN.{length, getD, set, take}
 use lib.Dec.{eqb}
 use lib.Ieee.{Float}
@@ -67,3 +67,12 @@ unfoldable pub flipsFor : Mode → List ℕ → List ℕ
 flipsFor Triangles flips = []
 flipsFor Polygonal flips = []
 flipsFor (Silhouette cosine) flips = flips
+
+-- what the tests before a drawing promise of a mesh and of what is lent
+pub record Fitting (is : List ℕ) (words numbers room startRoom : ℕ) : Type 0 where
+  pub three : length is % 3 ≡ 0
+  pub few : length is / 3 ≤ mostFaces
+  pub scratch : 64 * (length is / 3) ≤ words
+  pub seen : 4 * (length is / 3) ≤ numbers
+  pub points : 6 * (length is / 3) ≤ room
+  pub starts : 3 * (length is / 3) ≤ startRoom

@@ -10,9 +10,13 @@ use mesh_keep::kept;
 use mesh_mode::Mode;
 use mesh_mode::Moded;
 use mesh_mode::mode_of;
+use mesh_seen::clear_seen;
 use mesh_seen::see;
 use mesh_seen::some_flat;
+use order::clear;
+use path::Place;
 use path::coordinates_good;
+use path_splice::splice_pairs;
 use refusal::Refusal;
 use refusal::Verdict;
 use vector::Vector;
@@ -25,8 +29,10 @@ ghost use Rattle.order.specs.Regions.{region};
 ghost use Rattle.mesh.specs.Meshes.{shapedOf};
 ghost use Rattle.mesh_edges.specs.Words.{edgesIn};
 ghost use Rattle.mesh_keep.specs.Keep.{keptBy, facesOf, seenIn};
-ghost use Rattle.mesh_draw.specs.Walk.{Room, Listed, flipAt, withPair, written, edgeKept, KeptIn, lookIn, flipsFor};
-ghost use Rattle.mesh_draw.specs.Call.{modeGood, modeIn, paired, numbersGood, scratchFor, roomFor, flatIn, workVerdict, verdictOf};
+ghost use Rattle.path_splice.specs.Text.{LaidOut};
+ghost use Rattle.mesh_draw.specs.Draw.{drawingOf};
+ghost use Rattle.mesh_draw.specs.Walk.{Room, Listed, flipAt, withPair, written, edgeKept, KeptIn, lookIn, flipsFor, Fitting};
+ghost use Rattle.mesh_draw.specs.Call.{modeGood, modeIn, paired, numbersGood, scratchFor, roomFor, flatIn, workVerdict, verdictOf, said, left, drawLeft};
 
 // What a drawing answers: how many points and starts were written, or the refusal.
 pub enum Drawing {
@@ -271,6 +277,79 @@ fn list_edges(mode: Mode, indices: &[u32], flips: &[u32], s: &mut [u32])
         }
         Mode::Silhouette(_) => {
             edges(indices, flips, s);
+        }
+    }
+}
+
+// Draws into room that is there: the sides by their pairs, the kept edges after them, spliced.
+fn draw_in(
+    vertices: &[f64],
+    indices: &[u32],
+    flips: &[u32],
+    mode: Mode,
+    eye: Vector,
+    tolerance: f64,
+    scratch: &mut [u32],
+    seen: &mut [f64],
+    out_points: &mut [u32],
+    out_starts: &mut [u32],
+) -> Place
+    requires { ⌜ Fitting (now indices) (length (now scratch)) (length (now seen)) (length (now «out_points»)) (length (now «out_starts»)) ⌝ }
+    ensures { λ r. ⌜ LaidOut (drawingOf mode eye tolerance (now (flips .entry)) (now (vertices .entry)) (now (indices .entry))) (now («out_points» .entry)) (now («out_starts» .entry))
+        (now («out_points» .exit)) (now («out_starts» .exit)) (r .points) (r .starts) ⌝ }
+{
+    look(mode, vertices, indices, eye, seen);
+    list_edges(mode, indices, flips, scratch);
+    let m = keep_edges(mode, seen, indices, scratch, tolerance);
+    let a = 5 * indices.len();
+    splice_pairs(&mut scratch[a..], m, out_points, out_starts)
+}
+
+// Draws a mesh: the edges that its mode keeps, each once, in strokes of vertex numbers with as few of them open as those edges
+// allow. Scratch is all zero after it.
+pub fn draw(
+    vertices: &[f64],
+    indices: &[u32],
+    flips: &[u32],
+    number: u32,
+    cos_theta: f64,
+    eye: Vector,
+    tolerance: f64,
+    scratch: &mut [u32],
+    seen: &mut [f64],
+    out_points: &mut [u32],
+    out_starts: &mut [u32],
+) -> Drawing
+    ensures { λ r. ⌜ left (said r) (now (scratch .exit)) (now (seen .exit)) (now («out_points» .exit)) (now («out_starts» .exit))
+        ≡ drawLeft (now (vertices .entry)) (now (indices .entry)) (now (flips .entry)) number «cos_theta» eye tolerance
+        (now (scratch .entry)) (now (seen .entry)) (now («out_points» .entry)) (now («out_starts» .entry)) ⌝ }
+{
+    let v = draw_verdict(
+        vertices,
+        indices,
+        flips.len(),
+        number,
+        cos_theta,
+        eye,
+        tolerance,
+        scratch.len(),
+        seen.len(),
+        out_points.len(),
+        out_starts.len(),
+    );
+    match v {
+        Verdict::Refused(r) => Drawing::Refused(r),
+        Verdict::Accepted => {
+            let mode = mode_in(number, cos_theta);
+            let p = draw_in(
+                vertices, indices, flips, mode, eye, tolerance, scratch, seen, out_points, out_starts,
+            );
+            clear(scratch);
+            clear_seen(seen);
+            Drawing::Wrote {
+                points: p.points,
+                starts: p.starts,
+            }
         }
     }
 }

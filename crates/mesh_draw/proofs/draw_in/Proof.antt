@@ -1,0 +1,95 @@
+-- `draw_in` meets its contract.
+use borrow.Author.Needs.{needs}
+use mathlib.Core.Path.{_≡_, refl, sym, ap, _∙_, subst}
+use mathlib.Core.List.{List}
+use Prim.Native.Nat.{ℕ, _*_}
+use lib.ListN.{length, drop}
+use lib.Ieee.{Float}
+use Rattle.path_splice.specs.Pairs.{pairsLeft}
+use Rattle.mesh_edges.proofs.Said.{edges-length}
+use Rattle.mesh_draw.specs.Walk.{KeptIn, flipsFor}
+use Rattle.mesh_draw.proofs.Draws.{room-for, listed, fitting, all-after, spliced, laid-as, drawing-of}
+use Rattle.mesh_draw.proofs.draw_in.Statement.{statement}
+use Rattle.mesh_draw.proofs.draw_in.Tie as tie
+
+look-requires : tie.Need-look-requires
+look-requires c κs = search needs
+
+list-edges-requires : tie.Need-list-edges-requires
+list-edges-requires c κs = search needs
+
+keep-edges-requires : tie.Need-keep-edges-requires
+keep-edges-requires c κs =
+    let a = c .before .before .before .before .before .before .before .before .before .before .before .before .before .before .before .before .before .args in
+    let F = c .before .before .before .before .before .before .before .before .before .before .before .before .before .before .before .before .before .pre in
+    let e = c .before .before .before .before .list-edges .ensures in
+    let fl = flipsFor (a .mode) (a .flips .now) in
+    (room-for (a .indices .now) _ _ _ _ F (c .before .before .before .before .list-edges .last .1 .1 .1 .0) (ap length e ∙ edges-length (a .scratch .now) (a .indices .now) fl),
+    listed (a .indices .now) _ _ _ _ F (a .scratch .now) (c .before .before .before .before .list-edges .last .1 .1 .1 .0) fl refl e)
+
+mul-a : tie.Need-mul-a
+mul-a c = search needs
+
+mul-splice-pairs : tie.Need-mul-splice-pairs
+mul-splice-pairs c = search needs
+
+sub-splice-pairs : tie.Need-sub-splice-pairs
+sub-splice-pairs c = search needs
+
+part-splice-pairs-start : tie.Need-part-splice-pairs-start
+part-splice-pairs-start c = search needs
+
+part-splice-pairs-end : tie.Need-part-splice-pairs-end
+part-splice-pairs-end c = search needs
+
+splice-pairs-requires : tie.Need-splice-pairs-requires
+splice-pairs-requires c κs = search needs
+
+same-length : tie.Need-same-length
+same-length c = search needs
+
+same-length-2 : tie.Need-same-length-2
+same-length-2 c = search needs
+
+same-length-3 : tie.Need-same-length-3
+same-length-3 c = search needs
+
+same-length-4 : tie.Need-same-length-4
+same-length-4 c = search needs
+
+returns : tie.Need-returns
+returns c =
+    let a = c .before .before .before .before .before .before .before .before .before .before .before .before .before .before .before .before .before .before .before .before .before .before .before .before .before .before .before .before .before .before .args in
+    let F = c .before .before .before .before .before .before .before .before .before .before .before .before .before .before .before .before .before .before .before .before .before .before .before .before .before .before .before .before .before .before .pre in
+    let t = c .before .before .before .before .before .before .before .before .before .before .before .before .before .before .before .before .before .list-edges .last .1 .1 .1 .0 in
+    let et = c .before .before .before .before .before .before .before .before .before .before .before .before .before .before .before .before .before .list-edges .ensures in
+    let K = c .before .before .before .before .before .before .before .before .before .before .before .before .keep-edges .ensures in
+    let fl = flipsFor (a .mode) (a .flips .now) in
+    let m = c .before .before .before .before .before .before .before .before .before .before .before .before .keep-edges .result in
+    let u = c .before .before .before .before .before .before .before .before .before .before .before .before .keep-edges .last .1 .1 .1 .0 in
+    let eu = K .size ∙ ap length et ∙ edges-length (a .scratch .now) (a .indices .now) fl in
+    let seen = subst (λ (z : List Float). KeptIn (a .mode) z (a .tolerance) (a .indices .now) t u m) (c .before .before .before .before .before .before .before .before .before .before .before .before .before .before .before .before .before .before .before .before .before .look .ensures) K in
+    laid-as _ _ (a .out-points .now) (a .out-starts .now) _ _ _ _
+    (drawing-of (a .mode) (a .eye) (a .tolerance) (a .flips .now) (a .vertices .now) (a .indices .now) (a .seen .now) (a .scratch .now) t u m _ _ _ _ F refl refl et seen)
+    (spliced (drop (5 * length (a .indices .now)) u) _ (a .out-points .now) (a .out-starts .now) _ _ m _ _
+    (fitting (a .indices .now) _ _ _ _ F m u (a .out-points .now) (a .out-starts .now) eu (K .few) refl refl)
+    (c .before .before .before .before .before .before .splice-pairs .ensures ∙ ap (λ (z : List ℕ). pairsLeft z m (a .out-points .now) (a .out-starts .now)) (all-after u (5 * length (a .indices .now)))))
+
+pub draw-in-spec : {M : Type 1} → statement M
+draw-in-spec =
+    tie.close
+    (tie.spec
+    look-requires
+    list-edges-requires
+    keep-edges-requires
+    mul-a
+    mul-splice-pairs
+    sub-splice-pairs
+    part-splice-pairs-start
+    part-splice-pairs-end
+    splice-pairs-requires
+    same-length
+    same-length-2
+    same-length-3
+    same-length-4
+    returns)
