@@ -1,9 +1,9 @@
 -- What a drawing answers and leaves in the four lists lent to it.
 use mathlib.Core.Bool.{Bool, true, false, not, _&&_}
 use mathlib.Core.List.{List, [], _∷_}
-use Prim.Native.Nat.{ℕ, _*_, _/_, _%_}
-use lib.ListN.{length, getD, replicate}
-use lib.Dec.{leb, eqb}
+use Prim.Native.Nat.{ℕ, _/_, _%_}
+use lib.ListN.{length, getD}
+use lib.Dec.{eqb}
 use lib.Ieee.{Float}
 use Rattle.refusal.specs.declared.Refusal.the-variants.{Shape, Count, Vertex, Number, Scratch, Room, Flat}
 use Rattle.refusal.specs.declared.Verdict.{Verdict}
@@ -11,9 +11,7 @@ use Rattle.refusal.specs.declared.Verdict.the-variants.{Accepted, Refused}
 use Rattle.refusal.specs.Refusals.{unless}
 use Rattle.refusal.specs.Said.{Said, accepted, refused}
 use Rattle.vector.specs.declared.Vector.{Vector}
-use Rattle.vector.specs.Lengths.{zero64}
 use Rattle.path.specs.Tests.{coordinatesGood}
-use Rattle.path.specs.Laid.{over, joined, startsFrom}
 use Rattle.mesh.specs.Meshes.{faceAt, shapedOf, countedOf, allBelow, vectorGood, toleranceGood}
 use Rattle.mesh_mode.specs.declared.Mode.{Mode}
 use Rattle.mesh_mode.specs.declared.Mode.the-variants.{Triangles, Polygonal, Silhouette}
@@ -21,7 +19,8 @@ use Rattle.mesh_mode.specs.Modes.{modeOf}
 use Rattle.mesh_seen.specs.Seen.{flatFrom}
 use Rattle.mesh_draw.specs.declared.Drawing.{Drawing}
 use Rattle.mesh_draw.specs.declared.Drawing.the-variants as D
-use Rattle.mesh_draw.specs.Draw.{drawingOf}
+use Rattle.mesh_strokes.specs.Draw.{drawingOf}
+use Rattle.mesh_strokes.specs.Strokes.{Left, left, laid, scratchFor, roomFor}
 
 -- the answer as the paper reads it
 abbrev pub said : Drawing → Said ℕ
@@ -42,14 +41,6 @@ paired numbers = eqb (numbers % 2) 0
 -- coordinates, mode with its cosine, eye and tolerance within their ranges
 unfoldable pub numbersGood : List Float → ℕ → Float → Vector → Float → Bool
 numbersGood vs number cosine eye tolerance = coordinatesGood vs && modeGood number cosine && vectorGood eye && toleranceGood tolerance
-
--- 64 words and 4 numbers of scratch a face
-unfoldable pub scratchFor : ℕ → ℕ → ℕ → Bool
-scratchFor faces words numbers = leb (64 * faces) words && leb (4 * faces) numbers
-
--- room for 6 points and 3 starts a face
-unfoldable pub roomFor : ℕ → ℕ → ℕ → Bool
-roomFor faces room startRoom = leb (6 * faces) room && leb (3 * faces) startRoom
 
 -- whether a mode needs a normal that some face does not have
 unfoldable pub flatIn : Mode → List Float → List ℕ → Bool
@@ -74,20 +65,9 @@ verdictOf vs is flips number cosine eye tolerance words numbers room startRoom =
     (unless (allBelow (length vs / 3) is) Vertex
     (workVerdict vs is number cosine eye tolerance words numbers room startRoom)))
 
-pub record Left : Type 0 where
-  pub answer : Said ℕ
-  pub words : List ℕ
-  pub seen : List Float
-  pub points : List ℕ
-  pub starts : List ℕ
-
-abbrev pub left : Said ℕ → List ℕ → List Float → List ℕ → List ℕ → Left
-left a s f op os = record { answer = a; words = s; seen = f; points = op; starts = os }
-
--- an accepted call: scratch all zero, the strokes' points in a row, the start of each, and the rest as it was; a refused one leaves all as it was
+-- a refused call leaves all as it was
 unfoldable pub leftBy : Verdict → List (List ℕ) → List ℕ → List Float → List ℕ → List ℕ → Left
-leftBy Accepted ss s f op os =
-    left (accepted (length (joined ss) ∷ length ss ∷ [])) (replicate (length s) 0) (replicate (length f) zero64) (over op (joined ss)) (over os (startsFrom 0 ss))
+leftBy Accepted ss s f op os = laid ss s f op os
 leftBy (Refused r) ss s f op os = left (refused r) s f op os
 
 unfoldable pub drawLeft : List Float → List ℕ → List ℕ → ℕ → Float → Vector → Float → List ℕ → List Float → List ℕ → List ℕ → Left

@@ -1,4 +1,1 @@
-pub mod Draw
-pub mod Walk
 pub mod Call
-pub mod Cases

@@ -17,7 +17,7 @@ use Rattle.mesh_seen.specs.Seen.{seenFrom}
 use Rattle.mesh_edges.specs.Edges.{edgesOf}
 use Rattle.mesh_edges.specs.Words.{wordsOf}
 use Rattle.mesh_keep.specs.Keep.{seenIn}
-use Rattle.mesh_draw.specs.Draw.{kept, strokesBy}
+use Rattle.mesh_strokes.specs.Draw.{kept, strokesBy}
 
 -- room for n sides, and for as many strokes to be spliced
 pub record Room (s : List ℕ) (n : ℕ) : Type 0 where

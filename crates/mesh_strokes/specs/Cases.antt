@@ -7,7 +7,7 @@ use Rattle.vector.specs.Vectors.{vec}
 use Rattle.vector.specs.Lengths.{zero64, one64}
 use Rattle.mesh_mode.specs.declared.Mode.{Mode}
 use Rattle.mesh_mode.specs.declared.Mode.the-variants.{Triangles, Polygonal}
-use Rattle.mesh_draw.specs.Draw.{drawingOf}
+use Rattle.mesh_strokes.specs.Draw.{drawingOf}
 
 pub data Case : Type 0 where
   draws : Mode → List ℕ → List (List ℕ) → Case

@@ -3,9 +3,9 @@ use borrow.Author.Needs.{needs}
 use native.Mathlib.Omega.{arith}
 use mathlib.Core.Path.{refl}
 use lib.ListN.{length-set}
-use Rattle.mesh_draw.specs.Walk.{withPair}
-use Rattle.mesh_draw.proofs.put_pair.Statement.{statement}
-use Rattle.mesh_draw.proofs.put_pair.Tie as tie
+use Rattle.mesh_strokes.specs.Walk.{withPair}
+use Rattle.mesh_strokes.proofs.put_pair.Statement.{statement}
+use Rattle.mesh_strokes.proofs.put_pair.Tie as tie
 
 mul-k : tie.Need-mul-k
 mul-k c = search needs

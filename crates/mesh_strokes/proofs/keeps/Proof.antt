@@ -5,9 +5,9 @@ use mathlib.Core.Path.{_≡_, ap, _∙_}
 use Prim.Native.Nat.{ℕ, _+_, _-_, _*_}
 use lib.ListN.{take, drop}
 use Rattle.mesh_keep.specs.Keep.{keptBy, facesOf, seenIn}
-use Rattle.mesh_draw.specs.Walk.{flipAt}
-use Rattle.mesh_draw.proofs.keeps.Statement.{statement}
-use Rattle.mesh_draw.proofs.keeps.Tie as tie
+use Rattle.mesh_strokes.specs.Walk.{flipAt}
+use Rattle.mesh_strokes.proofs.keeps.Statement.{statement}
+use Rattle.mesh_strokes.proofs.keeps.Tie as tie
 
 mul-k : tie.Need-mul-k
 mul-k c = search needs

@@ -7,7 +7,7 @@ use Rattle.vector.specs.declared.Vector.{Vector}
 use Rattle.path_ends.specs.Demand.{Demand3}
 use Rattle.path_ends.proofs.Numbers.{on-numbers}
 use Rattle.mesh_mode.specs.declared.Mode.{Mode}
-use Rattle.mesh_draw.specs.Draw.{keptOf, drawingOf}
+use Rattle.mesh_strokes.specs.Draw.{keptOf, drawingOf}
 
 -- each kept edge once and none invented; then as few open strokes as those edges allow
 pub drawn : (mode : Mode) (eye : Vector) (tolerance : Float) (flips : List ℕ) (vs : List Float) (is : List ℕ) → Demand3 eqb (keptOf mode eye tolerance flips vs is) (drawingOf mode eye tolerance flips vs is)

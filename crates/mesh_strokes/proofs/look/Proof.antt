@@ -1,9 +1,9 @@
 -- `look` meets its contract.
 use borrow.Author.Needs.{needs}
 use mathlib.Core.Path.{_∙_}
-use Rattle.mesh_draw.proofs.Seens.{look-triangles, look-polygonal, look-silhouette}
-use Rattle.mesh_draw.proofs.look.Statement.{statement}
-use Rattle.mesh_draw.proofs.look.Tie as tie
+use Rattle.mesh_strokes.proofs.Seens.{look-triangles, look-polygonal, look-silhouette}
+use Rattle.mesh_strokes.proofs.look.Statement.{statement}
+use Rattle.mesh_strokes.proofs.look.Tie as tie
 
 cast-n : tie.Need-cast-n
 cast-n c = search needs

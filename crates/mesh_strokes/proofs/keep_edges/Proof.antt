@@ -8,11 +8,11 @@ use lib.ListN.{length, getD, take}
 use Rattle.order.specs.Regions.{region}
 use Rattle.mesh_edges.specs.Words.{wordsOf}
 use Rattle.mesh_keep.specs.Keep.{seenIn}
-use Rattle.mesh_draw.specs.Draw.{kept}
-use Rattle.mesh_draw.specs.Walk.{Room}
-use Rattle.mesh_draw.proofs.Walks.{Went, went-none, went-all, Next, next, turn-low, turn-high, turn-below, room-same}
-use Rattle.mesh_draw.proofs.keep_edges.Statement.{statement}
-use Rattle.mesh_draw.proofs.keep_edges.Tie as tie
+use Rattle.mesh_strokes.specs.Draw.{kept}
+use Rattle.mesh_strokes.specs.Walk.{Room}
+use Rattle.mesh_strokes.proofs.Walks.{Went, went-none, went-all, Next, next, turn-low, turn-high, turn-below, room-same}
+use Rattle.mesh_strokes.proofs.keep_edges.Statement.{statement}
+use Rattle.mesh_strokes.proofs.keep_edges.Tie as tie
 
 abbrev Inv-loop : tie.InvT-loop
 Inv-loop mode seen indices s₀ tolerance p₀ m₀ s p m =

@@ -2,9 +2,9 @@
 use borrow.Author.Needs.{needs}
 use mathlib.Core.Path.{ap, _∙_}
 use Rattle.mesh_edges.specs.Words.{edgesIn}
-use Rattle.mesh_draw.proofs.Seens.{flips-triangles, flips-polygonal, flips-silhouette}
-use Rattle.mesh_draw.proofs.list_edges.Statement.{statement}
-use Rattle.mesh_draw.proofs.list_edges.Tie as tie
+use Rattle.mesh_strokes.proofs.Seens.{flips-triangles, flips-polygonal, flips-silhouette}
+use Rattle.mesh_strokes.proofs.list_edges.Statement.{statement}
+use Rattle.mesh_strokes.proofs.list_edges.Tie as tie
 
 enum-told : tie.Need-enum-told
 enum-told c = search needs

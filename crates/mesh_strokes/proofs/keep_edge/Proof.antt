@@ -2,9 +2,9 @@
 use borrow.Author.Needs.{needs}
 use native.Mathlib.Omega.{arith}
 use mathlib.Core.Path.{sym, _∙_}
-use Rattle.mesh_draw.proofs.Walks.{edge-yes, edge-no}
-use Rattle.mesh_draw.proofs.keep_edge.Statement.{statement}
-use Rattle.mesh_draw.proofs.keep_edge.Tie as tie
+use Rattle.mesh_strokes.proofs.Walks.{edge-yes, edge-no}
+use Rattle.mesh_strokes.proofs.keep_edge.Statement.{statement}
+use Rattle.mesh_strokes.proofs.keep_edge.Tie as tie
 
 keeps-requires : tie.Need-keeps-requires
 keeps-requires c κs = search needs

@@ -24,8 +24,8 @@ use Rattle.mesh_edges.proofs.Ups.{sides-length, side-below}
 use Rattle.mesh_edges.proofs.Mates.{flag-two}
 use Rattle.mesh_edges.proofs.Said.{words-low, words-high, words-side, words-flag, words-end}
 use Rattle.mesh_keep.specs.Keep.{Seen, keptBy, facesOf, seenIn}
-use Rattle.mesh_draw.specs.Draw.{flipOf, kept, strokesBy}
-use Rattle.mesh_draw.specs.Walk.{Room, flipAt, withPair, Written, written, edgeKept}
+use Rattle.mesh_strokes.specs.Draw.{flipOf, kept, strokesBy}
+use Rattle.mesh_strokes.specs.Walk.{Room, flipAt, withPair, Written, written, edgeKept}
 
 -- ---- pairs
 pub pairs-more : (w : List ℕ) (m a b : ℕ) → length w ≡ 2 * m → pairsOf (w ++ (a ∷ b ∷ [])) ≡ pairsOf w ++ ((a ∷ b ∷ []) ∷ [])

@@ -7,10 +7,10 @@ use lib.ListN.{length, drop}
 use lib.Ieee.{Float}
 use Rattle.path_splice.specs.Pairs.{pairsLeft}
 use Rattle.mesh_edges.proofs.Said.{edges-length}
-use Rattle.mesh_draw.specs.Walk.{KeptIn, flipsFor}
-use Rattle.mesh_draw.proofs.Draws.{room-for, listed, fitting, all-after, spliced, laid-as, drawing-of}
-use Rattle.mesh_draw.proofs.draw_in.Statement.{statement}
-use Rattle.mesh_draw.proofs.draw_in.Tie as tie
+use Rattle.mesh_strokes.specs.Walk.{KeptIn, flipsFor}
+use Rattle.mesh_strokes.proofs.Steps.{room-for, listed, fitting, all-after, spliced, laid-as, drawing-of}
+use Rattle.mesh_strokes.proofs.draw_in.Statement.{statement}
+use Rattle.mesh_strokes.proofs.draw_in.Tie as tie
 
 look-requires : tie.Need-look-requires
 look-requires c κs = search needs

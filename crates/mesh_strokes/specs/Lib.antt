@@ -1,0 +1,4 @@
+pub mod Draw
+pub mod Walk
+pub mod Strokes
+pub mod Cases
