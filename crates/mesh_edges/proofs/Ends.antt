@@ -2,13 +2,13 @@
 -- Assumes nothing.
 use mathlib.Core.Path.{_≡_, refl, sym, ap, _∙_}
 use mathlib.Core.Bool.{Bool, true, false, cond, _&&_}
-use mathlib.Core.Logic.{_⊎_, inl, inr, _≢_}
-use mathlib.Core.List.{List, [], _∷_}
-use Prim.Native.Nat.{ℕ, zero, suc, _+_, _-_, _*_, _<_, _≤_}
+use mathlib.Core.Logic.{_≢_}
+use mathlib.Core.List.{List, _∷_}
+use Prim.Native.Nat.{ℕ, suc, _+_, _-_, _*_, _<_, _≤_}
 use native.Mathlib.Omega.{arith}
 use native.Mathlib.Numerals.{add-one}
 use lib.Dec.{eqb, leb}
-use lib.ListN.{length, take, drop, getD, drop-of-length-le}
+use lib.ListN.{length, drop, getD, drop-of-length-le}
 use lib.Seq.{drop-cons}
 use borrow.Author.Tests.{le-leb, lt-leb}
 use Rattle.order.specs.Regions.{region}
@@ -24,7 +24,7 @@ module _ (s : List ℕ) (n : ℕ) (H : 5 * n ≤ length s) where
   long : length R ≡ n
   long = length-region s (2 * n) n (omega arith)
 
-  pub sides-at : (q : ℕ) → q < n → drop q R ≡ getD s (2 * n + q) 0 ∷ drop (q + 1) R
+  sides-at : (q : ℕ) → q < n → drop q R ≡ getD s (2 * n + q) 0 ∷ drop (q + 1) R
   sides-at q h = rw (add-one q) (drop-cons R q 0 (omega (arith, long)) ∙ ap (λ (z : ℕ). z ∷ drop (suc q) R) (get-region s (2 * n) n q h))
 
   -- the end, as what is found up to q says it

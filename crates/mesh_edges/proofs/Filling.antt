@@ -1,7 +1,6 @@
 -- The sides written one after the other, and brought in the order of their pairs.
 -- Assumes nothing.
-use mathlib.Core.Path.{_≡_, refl, sym, ap, _∙_, subst}
-use mathlib.Core.Bool.{true}
+use mathlib.Core.Path.{_≡_, refl, sym, ap, _∙_}
 use mathlib.Core.Logic.{inl, inr}
 use mathlib.Core.List.{List, [], _∷_, _++_, map}
 use Prim.Native.Nat.{ℕ, _+_, _-_, _*_, _<_, _≤_}
@@ -17,7 +16,7 @@ use Rattle.order.proofs.Passes.{by-pairs}
 use Rattle.order.proofs.Sorting.{apart-before, apart-after, inside-for, cut-for, sorted-yes}
 use Rattle.mesh_edges.specs.Edges.{lowOf, highOf, pairOf, upFrom, sidesOf}
 use Rattle.mesh_edges.specs.Steps.{sidesTo, byPairs, plainWords}
-use Rattle.mesh_edges.proofs.Ups.{up-none, up-length, up-more, up-agree, map-more, map-length, map-at, sides-length}
+use Rattle.mesh_edges.proofs.Ups.{up-length, up-more, up-agree, map-more, map-length, map-at}
 
 put-one : (s : List ℕ) (j x : ℕ) → set s j x ≡ put s j (x ∷ [])
 unfolding put
@@ -118,9 +117,6 @@ module _ (s is : List ℕ) (H : 5 * length is ≤ length s) where
 
   lr : length (replicate {A = ℕ} n 0) ≡ n
   lr = length-replicate {A = ℕ} n 0
-
-  ls : length (sidesOf is) ≡ n
-  ls = sides-length is
 
   three : (l : List ℕ) → put (put (put s 0 A) n B) (2 * n) l ≡ put s 0 (A ++ B ++ l)
   three l =

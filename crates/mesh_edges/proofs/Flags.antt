@@ -14,10 +14,10 @@ use lib.Seq.{getD-set-same, getD-set-other, drop-cons, ext-getD}
 use Rattle.order.proofs.Tests.{truth, clash, eqb-false, eqb-self, le-or}
 use Rattle.mesh_edges.specs.Edges.{faceOf, upFrom, edgesOf}
 use Rattle.mesh_edges.specs.Flips.{flipped}
-use Rattle.mesh_edges.specs.Words.{mateIn, flagBy, flagOf}
+use Rattle.mesh_edges.specs.Words.{flagBy, flagOf}
 use Rattle.mesh_edges.specs.Steps.{mateOn, flagAt, flagPair, flagAll, marks}
 use Rattle.mesh_edges.proofs.Ups.{map-at, map-length}
-use Rattle.mesh_edges.proofs.Mates.{marks-at, marks-size, edges-apart}
+use Rattle.mesh_edges.proofs.Mates.{marks-at, edges-apart}
 
 pub mate-off : (y m : ℕ) → m ≡ 0 → mateOn y m ≡ false
 unfolding mateOn

@@ -4,14 +4,12 @@ use mathlib.Core.Path.{_≡_, refl, sym, ap, _∙_}
 use mathlib.Core.Bool.{true, false}
 use mathlib.Core.Logic.{inl, inr}
 use mathlib.Core.List.{List}
-use Prim.Native.Nat.{ℕ, suc, _+_, _-_, _*_, _/_, _<_, _≤_}
+use Prim.Native.Nat.{ℕ, _+_, _-_, _*_, _/_, _<_, _≤_}
 use native.Mathlib.Omega.{arith}
 use lib.Dec.{eqb}
 use lib.ListN.{length, getD, set, drop, replicate, length-replicate, List·getD-eq-default}
 use Rattle.order.specs.Regions.{region, put, Into}
-use Rattle.order.proofs.Parts.{length-put, length-region, get-region, region-put, region-off, put-region, put-put, put-comm, set-put, into-none, into-own, into-region}
-use Rattle.mesh_edges.specs.Edges.{groupsOf}
-use Rattle.mesh_edges.specs.Words.{pairIn}
+use Rattle.order.proofs.Parts.{length-region, get-region, region-put, region-off, put-region, put-put, put-comm, set-put, into-none}
 use Rattle.mesh_edges.specs.Steps.{mateOn, flagAt, flagPair, flagAll, marks}
 use Rattle.mesh_edges.proofs.Mates.{marks-size}
 use Rattle.mesh_edges.proofs.Flags.{mate-off, mate-is, mate-within, flag-yes, flag-no, flag-length, pair-length, all-turn, all-end, all-short, all-length}

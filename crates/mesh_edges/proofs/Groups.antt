@@ -4,10 +4,13 @@ use mathlib.Core.Path.{_≡_, refl, sym, ap, _∙_, subst}
 use mathlib.Core.Bool.{Bool, true, false, cond}
 use mathlib.Core.Logic.{_⊎_, inl, inr}
 use mathlib.Core.List.{List, [], _∷_, _++_, append-assoc}
-use Prim.Native.Nat.{ℕ, suc, _≤_}
+use Prim.Native.Nat.{ℕ, suc, _+_, _-_, _<_, _≤_}
 use native.Mathlib.Omega.{arith}
+use native.Mathlib.Numerals.{add-one}
 use lib.Dec.{eqb}
-use lib.ListN.{length, take, drop}
+use lib.ListN.{length, getD, take, drop, length-drop}
+use lib.Seq.{drop-cons, drop-drop}
+use Rattle.order.specs.Regions.{region}
 use Rattle.order.proofs.Tests.{truth, eqb-true}
 use Rattle.order.proofs.Sorted.{In}
 use Rattle.mesh_edges.specs.Edges.{grow, groupsOf}
@@ -72,6 +75,21 @@ module _ (key : ℕ → ℕ) where
       go (inr h) e =
           rw (alike-no x y ys h)
           (groups-cons x (y ∷ ys) ∙ ap (grow key x) e ∙ grow-no x y (take (alike key y ys) ys) (groupsOf key (drop (alike key y ys) ys)) h ∙ ap (λ (gs : List (List ℕ)). (x ∷ []) ∷ gs) (sym e))
+
+-- the group that begins at place p of a list
+module _ (key : ℕ → ℕ) (l : List ℕ) (p : ℕ) (h : p < length l) where
+  pub group-within : p + 1 + alike key (getD l p 0) (drop (p + 1) l) ≤ length l
+  group-within = omega (arith, alike-le key (getD l p 0) (drop (p + 1) l), length-drop (p + 1) l)
+
+  pub group-at : (q : ℕ) → q ≡ p + 1 + alike key (getD l p 0) (drop (p + 1) l) → groupsOf key (drop p l) ≡ region l p (q - p) ∷ groupsOf key (drop q l)
+  group-at q e =
+      let x = getD l p 0 in
+      let r = alike key x (drop (p + 1) l) in
+      let d : drop p l ≡ x ∷ drop (p + 1) l = drop-cons l p 0 h ∙ ap (λ (z : ℕ). x ∷ drop z l) (sym (add-one p)) in
+      let u : q - p ≡ suc r = omega arith in
+      let v : drop r (drop (p + 1) l) ≡ drop q l = drop-drop r (p + 1) l ∙ ap (λ (z : ℕ). drop z l) (sym e) in
+      let g : region l p (q - p) ≡ x ∷ take r (drop (p + 1) l) = ap (λ (z : ℕ). take z (drop p l)) u ∙ ap (take (suc r)) d in
+      ap (groupsOf key) d ∙ edge-first key x (drop (p + 1) l) ∙ ap (λ (k : List ℕ). (x ∷ take r (drop (p + 1) l)) ∷ groupsOf key k) v ∙ ap (λ (k : List ℕ). k ∷ groupsOf key (drop q l)) (sym g)
 
 -- all groups one after the other
 abbrev pub joined : List (List ℕ) → List ℕ

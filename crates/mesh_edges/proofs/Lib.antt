@@ -8,3 +8,4 @@ pub mod Filling
 pub mod Mating
 pub mod Flipping
 pub mod Edging
+pub mod Walking

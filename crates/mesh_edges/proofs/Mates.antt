@@ -1,23 +1,23 @@
 -- The mates, written group after group, and what the flag of an edge of two sides is.
 -- Assumes nothing.
 use mathlib.Core.Path.{_≡_, refl, sym, ap, _∙_, subst}
-use mathlib.Core.Bool.{Bool, true, false, cond}
+use mathlib.Core.Bool.{true, cond}
 use mathlib.Core.Logic.{_⊎_, inl, inr, _≢_, ⊎-elim}
 use mathlib.Core.List.{List, [], _∷_, _++_}
-use Prim.Native.Nat.{ℕ, zero, suc, _<_, _≤_, _/_, min, max}
+use Prim.Native.Nat.{ℕ, zero, suc, _<_, _/_, min, max}
 use native.Mathlib.Omega.{arith}
 use native.Mathlib.Decide.{ℕ-discrete}
 use lib.Dec.{eqb}
 use lib.ListN.{length, getD, set, length-set}
 use lib.Seq.{getD-set-same, getD-set-other}
 use Rattle.order.proofs.Tests.{eqb-false, eqb-self}
-use Rattle.order.proofs.Sorted.{In, Sorted, Before}
-use Rattle.mesh_edges.specs.Edges.{faceOf, pairOf, sidesOf, edgesOf, groupsOf}
+use Rattle.order.proofs.Sorted.{In, Sorted}
+use Rattle.mesh_edges.specs.Edges.{faceOf, pairOf, sidesOf, edgesOf}
 use Rattle.mesh_edges.specs.Flips.{flipped}
 use Rattle.mesh_edges.specs.Words.{mateIn, flagBy, flagOf}
 use Rattle.mesh_edges.specs.Steps.{mark, marks}
-use Rattle.mesh_edges.proofs.Groups.{joined, joined-append, join-groups, Even, Evens, evens-after, even-groups}
-use Rattle.mesh_edges.proofs.Ups.{sides-sorted, sides-below}
+use Rattle.mesh_edges.proofs.Groups.{joined, joined-append, join-groups, Evens, evens-after, even-groups}
+use Rattle.mesh_edges.proofs.Ups.{sides-sorted}
 
 -- numbers that are all different
 abbrev pub Apart : List ℕ → Type 0
@@ -67,22 +67,18 @@ mate-here : (gs : List (List ℕ)) (a b : ℕ) → mateIn ((a ∷ b ∷ []) ∷ 
 unfolding mateIn
 mate-here gs a b = rw (eqb-self a)
 
-mate-there : (gs : List (List ℕ)) (a b k : ℕ) → a ≢ k → mateIn ((a ∷ b ∷ []) ∷ gs) k ≡ mateIn gs k
-unfolding mateIn
-mate-there gs a b k h = rw (eqb-false a k h)
-
 -- the first that is not 0
 abbrev orElse : ℕ → ℕ → ℕ
 orElse zero d = d
 orElse (suc m) d = suc m
 
-marks-length : (gs : List (List ℕ)) (m : List ℕ) → length (marks gs m) ≡ length m
+pub marks-size : (gs : List (List ℕ)) (m : List ℕ) → length (marks gs m) ≡ length m
 unfolding marks mark
-marks-length [] m = refl
-marks-length ([] ∷ gs) m = marks-length gs m
-marks-length ((a ∷ []) ∷ gs) m = marks-length gs m
-marks-length ((a ∷ b ∷ []) ∷ gs) m = marks-length gs (set m a (suc b)) ∙ length-set m a (suc b)
-marks-length ((a ∷ b ∷ c ∷ g) ∷ gs) m = marks-length gs m
+marks-size [] m = refl
+marks-size ([] ∷ gs) m = marks-size gs m
+marks-size ((a ∷ []) ∷ gs) m = marks-size gs m
+marks-size ((a ∷ b ∷ []) ∷ gs) m = marks-size gs (set m a (suc b)) ∙ length-set m a (suc b)
+marks-size ((a ∷ b ∷ c ∷ g) ∷ gs) m = marks-size gs m
 
 marks-get : (gs : List (List ℕ)) (m : List ℕ) (k : ℕ) → k < length m → Apart (joined gs) → getD (marks gs m) k 0 ≡ orElse (mateIn gs k) (getD m k 0)
 unfolding marks mark mateIn
@@ -109,9 +105,6 @@ or-zero (suc m) d h = refl
 
 pub marks-at : (gs : List (List ℕ)) (m : List ℕ) (k : ℕ) → k < length m → Apart (joined gs) → getD m k 0 ≡ 0 → getD (marks gs m) k 0 ≡ mateIn gs k
 marks-at gs m k h A z = marks-get gs m k h A ∙ or-zero (mateIn gs k) (getD m k 0) z
-
-pub marks-size : (gs : List (List ℕ)) (m : List ℕ) → length (marks gs m) ≡ length m
-marks-size gs m = marks-length gs m
 
 -- the groups of a mesh
 module _ (is : List ℕ) where

@@ -1,21 +1,21 @@
 -- The walk over the edges that writes the mates.
 -- Assumes nothing.
-use mathlib.Core.Path.{_≡_, refl, sym, ap, _∙_, subst}
+use mathlib.Core.Path.{_≡_, refl, sym, ap, _∙_}
 use mathlib.Core.Logic.{inl, inr, _≢_}
 use mathlib.Core.List.{List, [], _∷_}
-use Prim.Native.Nat.{ℕ, zero, suc, _+_, _-_, _*_, _<_, _≤_}
+use Prim.Native.Nat.{ℕ, suc, _+_, _-_, _*_, _<_, _≤_}
 use native.Mathlib.Omega.{arith}
 use native.Mathlib.Numerals.{add-one}
-use lib.ListN.{length, getD, set, take, drop, length-set, length-drop, drop-of-length-le}
-use lib.Seq.{drop-drop, getD-drop}
+use lib.ListN.{length, getD, set, drop, length-set, length-drop, drop-of-length-le}
+use lib.Seq.{getD-drop}
 use Rattle.order.specs.Regions.{region, put, Into}
 use Rattle.order.proofs.Sorted.{In, at-in}
 use Rattle.order.proofs.Parts.{length-region, get-region, put-region, put-put, set-put, into-none, into-size, into-get, into-region, into-own}
 use Rattle.mesh_edges.specs.Edges.{groupsOf}
 use Rattle.mesh_edges.specs.Words.{alike, pairIn, endIn}
 use Rattle.mesh_edges.specs.Steps.{Below, mark, marks}
-use Rattle.mesh_edges.proofs.Groups.{edge-first, alike-le, alike-agree}
-use Rattle.mesh_edges.proofs.Ends.{sides-at, end-from}
+use Rattle.mesh_edges.proofs.Groups.{group-at, alike-le, alike-agree}
+use Rattle.mesh_edges.proofs.Ends.{end-from}
 
 mark-two : (g m : List ℕ) → length g ≡ 2 → mark g m ≡ set m (getD g 0 0) (suc (getD g 1 0))
 unfolding mark
@@ -140,12 +140,7 @@ module _ (s₀ : List ℕ) (n : ℕ) (H : 5 * n ≤ length s₀) (B : Below s₀
       end-within = omega (arith, end-is, alike-le key x (drop (p + 1) R), length-drop (p + 1) R, lr)
 
       group-is : (q : ℕ) → q ≡ endIn s n p → groupsOf key (drop p R) ≡ region R p (q - p) ∷ groupsOf key (drop q R)
-      group-is q e =
-          let d : drop p R ≡ x ∷ drop (p + 1) R = sides-at s₀ n H p h in
-          let u : q - p ≡ suc r = omega (arith, end-is) in
-          let v : drop r (drop (p + 1) R) ≡ drop q R = drop-drop r (p + 1) R ∙ ap (λ (z : ℕ). drop z R) (sym (e ∙ end-is)) in
-          let g : region R p (q - p) ≡ x ∷ take r (drop (p + 1) R) = ap (λ (z : ℕ). take z (drop p R)) u ∙ ap (take (suc r)) d in
-          ap (groupsOf key) d ∙ edge-first key x (drop (p + 1) R) ∙ ap (λ (l : List ℕ). (x ∷ take r (drop (p + 1) R)) ∷ groupsOf key l) v ∙ ap (λ (l : List ℕ). l ∷ groupsOf key (drop q R)) (sym g)
+      group-is q e = group-at key R p (omega (arith, lr)) q (e ∙ end-is ∙ ap (λ (z : ℕ). p + 1 + alike key z (drop (p + 1) R)) (sym (get-region s₀ (2 * n) n p h)))
 
       pub mating-more : (q : ℕ) → q ≡ endIn s n p → (s′ : List ℕ) → s′ ≡ put s (3 * n) (mark (region (region s (2 * n) n) p (q - p)) (region s (3 * n) n)) → Mating s′ q
       mating-more q e s′ w =

@@ -2,7 +2,7 @@
 -- Assumes nothing.
 use mathlib.Core.Path.{_≡_, refl, sym, ap, _∙_}
 use mathlib.Core.Bool.{Bool, true, false, cond, _&&_}
-use mathlib.Core.Logic.{inl, inr}
+use mathlib.Core.Logic.{inr}
 use mathlib.Core.List.{List, [], _∷_, _++_, map}
 use Prim.Native.Nat.{ℕ, zero, suc, _+_, _-_, _*_, _<_, _≤_}
 use native.Mathlib.Omega.{arith}
@@ -14,10 +14,10 @@ use Rattle.refusal.specs.Limits.{mostFaces}
 use Rattle.order.specs.Regions.{region, put}
 use Rattle.order.proofs.Parts.{length-put, length-region, get-region, region-put, get-off}
 use Rattle.order.proofs.Sorted.{In}
-use Rattle.mesh_edges.specs.Edges.{lowOf, highOf, pairOf, upFrom, sidesOf}
+use Rattle.mesh_edges.specs.Edges.{lowOf, highOf, pairOf, upFrom, sidesOf, groupsOf}
 use Rattle.mesh_edges.specs.Words.{flagOf, wordsOf, edgesIn, pairIn, alike, endIn}
 use Rattle.mesh_edges.proofs.Ups.{map-at, map-length, sides-length, side-below, sides-below}
-use Rattle.mesh_edges.proofs.Groups.{alike-agree}
+use Rattle.mesh_edges.proofs.Groups.{alike-agree, group-at, group-within}
 use Rattle.mesh_edges.proofs.Ends.{end-from}
 
 -- a list that begins with five lists of n elements each
@@ -176,6 +176,16 @@ module _ (t is flips : List ℕ) (e : take (5 * length is) t ≡ wordsOf is flip
 
   pub words-end : (p : ℕ) → p < length is → endIn t (length is) p ≡ p + 1 + alike (pairOf is) (getD (sidesOf is) p 0) (drop (p + 1) (sidesOf is))
   words-end = said-end t is zeros flags lz lg words
+
+  pub words-after : (p : ℕ) → p < length is → p < endIn t (length is) p
+  words-after p h = omega (arith, words-end p h)
+
+  pub words-within : (p : ℕ) → p < length is → endIn t (length is) p ≤ length is
+  words-within p h = omega (arith, words-end p h, group-within (pairOf is) (sidesOf is) p (omega (arith, sides-length is)), sides-length is)
+
+  -- the edge of the side at place p, and those after it
+  pub words-group : (p : ℕ) → p < length is → (q : ℕ) → q ≡ endIn t (length is) p → groupsOf (pairOf is) (drop p (sidesOf is)) ≡ region (sidesOf is) p (q - p) ∷ groupsOf (pairOf is) (drop q (sidesOf is))
+  words-group p h q w = group-at (pairOf is) (sidesOf is) p (omega (arith, sides-length is)) q (w ∙ words-end p h)
 
 pub words-length : (is flips : List ℕ) → length (wordsOf is flips) ≡ 5 * length is
 unfolding wordsOf

@@ -1,7 +1,7 @@
 -- Lists of rising numbers, and the sides in the order of their pairs.
 -- Assumes nothing.
 use mathlib.Core.Path.{_≡_, refl, sym, ap, _∙_}
-use mathlib.Core.Logic.{_⊎_, inl, inr, ⊎-elim}
+use mathlib.Core.Logic.{_⊎_, inl, inr}
 use mathlib.Core.List.{List, [], _∷_, _++_, map}
 use Prim.Native.Nat.{ℕ, zero, suc, _+_, _-_, _<_, _≤_}
 use native.Mathlib.Omega.{arith}
@@ -9,12 +9,8 @@ use native.Mathlib.Numerals.{add-one}
 use lib.ListN.{length, getD, length-map}
 use Rattle.order.specs.Order.{insert, order}
 use Rattle.order.proofs.Tests.{le-or}
-use Rattle.order.proofs.Sorted.{In, in-at, Rising, Sorted, insert-front, insert-later, single, order-cons, order-length, in-order, order-sorted}
+use Rattle.order.proofs.Sorted.{In, in-at, Rising, Sorted, insert-front, insert-later, single, order-length, in-order, order-sorted}
 use Rattle.mesh_edges.specs.Edges.{upFrom, pairOf, sidesOf}
-
-pub up-none : (a : ℕ) → upFrom a 0 ≡ []
-unfolding upFrom
-up-none a = refl
 
 pub up-length : (a n : ℕ) → length (upFrom a n) ≡ n
 unfolding upFrom

@@ -1,5 +1,5 @@
 -- The edges of a mesh: side k of the list of indices runs from corner k to the next corner of its face, k / 3.
-use mathlib.Core.Bool.{Bool, cond}
+use mathlib.Core.Bool.{cond}
 use mathlib.Core.List.{List, [], _∷_}
 use Prim.Native.Nat.{ℕ, zero, suc, _+_, _-_, _*_, _/_, _%_, min, max}
 use lib.ListN.{length, getD}

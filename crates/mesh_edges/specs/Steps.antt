@@ -33,6 +33,7 @@ mark (a ∷ []) m = m
 mark (a ∷ b ∷ []) m = set m a (suc b)
 mark (a ∷ b ∷ c ∷ g) m = m
 
+-- group after group
 unfoldable pub marks : List (List ℕ) → List ℕ → List ℕ
 marks [] m = m
 marks (g ∷ gs) m = marks gs (mark g m)

@@ -1,6 +1,6 @@
 -- The edges as words of scratch. With n sides: the smaller vertex of each side lies from word 0, the larger from n, the sides by their pairs from 2 n,
 -- and from 4 n which edges of two faces are flipped.
-use mathlib.Core.Bool.{Bool, true, false, cond, _&&_}
+use mathlib.Core.Bool.{cond, _&&_}
 use mathlib.Core.List.{List, [], _∷_, _++_, map}
 use Prim.Native.Nat.{ℕ, zero, suc, _+_, _*_}
 use lib.ListN.{length, getD, drop, replicate}

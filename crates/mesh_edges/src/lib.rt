@@ -3,7 +3,7 @@ use order::clear;
 use order::sort_words;
 use refusal::MOST_FACES;
 ghost use mathlib.Core.Path.{_≡_};
-ghost use Prim.Native.Nat.{ℕ, _+_, _-_, _*_, _<_, _≤_};
+ghost use Prim.Native.Nat.{_+_, _-_, _*_, _<_, _≤_};
 ghost use lib.ListN.{length, getD, replicate};
 ghost use Rattle.refusal.specs.Limits.{mostFaces};
 ghost use Rattle.order.specs.Regions.{region, put};

@@ -1,8 +1,6 @@
 -- `sides` meets its contract.
 use native.Mathlib.Omega.{arith}
-use mathlib.Core.Path.{_≡_, refl, sym, ap, _∙_}
-use Prim.Native.Nat.{ℕ, _*_}
-use lib.ListN.{length}
+use Prim.Native.Nat.{_*_}
 use Rattle.order.proofs.Parts.{cleared}
 use Rattle.mesh_edges.proofs.Filling.{plain-of}
 use borrow.Author.Needs.{needs}

@@ -1,7 +1,7 @@
 -- `walk_flips` meets its contract.
 use native.Mathlib.Omega.{arith}
 use mathlib.Core.Path.{_≡_, refl, _∙_}
-use Prim.Native.Nat.{ℕ, _-_, _*_, _≤_}
+use Prim.Native.Nat.{_-_, _*_, _≤_}
 use lib.ListN.{length, drop}
 use Rattle.order.specs.Regions.{region, Into}
 use Rattle.mesh_edges.specs.Steps.{flagAll}
