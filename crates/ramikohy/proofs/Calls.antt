@@ -9,7 +9,8 @@ use Rattle.refusal.specs.declared.Refusal.{Refusal}
 use Rattle.path.specs.Left as P
 use Rattle.path_splice.specs.Lent as S
 use Rattle.mesh_weld.specs.Call as W
-use Rattle.ramikohy.specs.Calls.{Strokes, strokes, strokesBy, Splice, splice, spliceBy, Weld, weld, weldBy}
+use Rattle.mesh_strokes.specs.Strokes as D
+use Rattle.ramikohy.specs.Calls.{Strokes, strokes, strokesBy, Splice, splice, spliceBy, Weld, weld, weldBy, Draw, draw, drawBy}
 
 module _ (l : P.Left) (answer : Said ℕ) (ps : List Float) (ss : List ℕ) (old : List ℕ) (is : P.left answer ps ss ≡ l) where
   pub wrote : (n : ℕ) (ns : List ℕ) → answer ≡ accepted (n ∷ ns) → strokes 0 (n ∷ ns) ps ss ≡ strokesBy l old
@@ -32,6 +33,13 @@ module _ (l : W.Left) (answer : Said ℕ) (s : List ℕ) (vs : List Float) (ns :
   pub refuse-weld : (k : ℕ) (why : Refusal) → k ≡ numberOf why → answer ≡ refused why → weld k old s vs ns ≡ weldBy l old
   refuse-weld k why n e = ap (λ (x : ℕ). weld x old s vs ns) n ∙ ap (λ (a : Said ℕ). weldBy (W.left a s vs ns) old) (sym e) ∙ ap (λ (x : W.Left). weldBy x old) is
 
+module _ (l : D.Left) (answer : Said ℕ) (ws : List ℕ) (fs : List Float) (ps ss : List ℕ) (old : List ℕ) (is : D.left answer ws fs ps ss ≡ l) where
+  pub drew : (n : ℕ) (ns : List ℕ) → answer ≡ accepted (n ∷ ns) → draw 0 (n ∷ ns) ws fs ps ss ≡ drawBy l old
+  drew n ns e = ap (λ (a : Said ℕ). drawBy (D.left a ws fs ps ss) old) (sym e) ∙ ap (λ (x : D.Left). drawBy x old) is
+
+  pub refuse-draw : (k : ℕ) (why : Refusal) → k ≡ numberOf why → answer ≡ refused why → draw k old ws fs ps ss ≡ drawBy l old
+  refuse-draw k why n e = ap (λ (x : ℕ). draw x old ws fs ps ss) n ∙ ap (λ (a : Said ℕ). drawBy (D.left a ws fs ps ss) old) (sym e) ∙ ap (λ (x : D.Left). drawBy x old) is
+
 -- two outcomes that the same record fixes are equal
 pub one-strokes : {l : Strokes} {s t : ℕ} {ns ms : List ℕ} {ps qs : List Float} {ss us : List ℕ} → strokes s ns ps ss ≡ l → strokes t ms qs us ≡ l
     → (s ≡ t) × (ns ≡ ms) × (ps ≡ qs) × (ss ≡ us)
@@ -50,3 +58,9 @@ pub one-weld : {l : Weld} {s t : ℕ} {ns ms ws xs : List ℕ} {vs us : List Flo
 one-weld e f =
     let h = e ∙ sym f in
     (ap (λ (x : Weld). x .status) h, ap (λ (x : Weld). x .counts) h, ap (λ (x : Weld). x .scratch) h, ap (λ (x : Weld). x .vertices) h, ap (λ (x : Weld). x .indices) h)
+
+pub one-draw : {l : Draw} {s t : ℕ} {ns ms ws xs : List ℕ} {fs gs : List Float} {ps qs ss us : List ℕ} → draw s ns ws fs ps ss ≡ l → draw t ms xs gs qs us ≡ l
+    → (s ≡ t) × (ns ≡ ms) × (ws ≡ xs) × (fs ≡ gs) × (ps ≡ qs) × (ss ≡ us)
+one-draw e f =
+    let h = e ∙ sym f in
+    (ap (λ (x : Draw). x .status) h, ap (λ (x : Draw). x .counts) h, ap (λ (x : Draw). x .scratch) h, ap (λ (x : Draw). x .seen) h, ap (λ (x : Draw). x .points) h, ap (λ (x : Draw). x .starts) h)

@@ -5,6 +5,7 @@ use lib.Ieee.{Float}
 use Rattle.path.specs.Left as P
 use Rattle.path_splice.specs.Lent as S
 use Rattle.mesh_weld.specs.Call as W
+use Rattle.mesh_strokes.specs.Strokes as D
 
 -- the counts of an answer; the places are as they were where there is none
 abbrev pub countsOf : List ℕ → List ℕ → List ℕ
@@ -51,3 +52,18 @@ weld s ns ws vs is = record { status = s; counts = ns; scratch = ws; vertices = 
 
 abbrev pub weldBy : W.Left → List ℕ → Weld
 weldBy l old = weld (l .answer .number) (countsOf (l .answer .values) old) (l .scratch) (l .vertices) (l .indices)
+
+-- a drawing
+pub record Draw : Type 0 where
+  pub status : ℕ
+  pub counts : List ℕ
+  pub scratch : List ℕ
+  pub seen : List Float
+  pub points : List ℕ
+  pub starts : List ℕ
+
+abbrev pub draw : ℕ → List ℕ → List ℕ → List Float → List ℕ → List ℕ → Draw
+draw s ns ws fs ps ss = record { status = s; counts = ns; scratch = ws; seen = fs; points = ps; starts = ss }
+
+abbrev pub drawBy : D.Left → List ℕ → Draw
+drawBy l old = draw (l .answer .number) (countsOf (l .answer .values) old) (l .words) (l .seen) (l .points) (l .starts)

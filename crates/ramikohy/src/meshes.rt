@@ -1,6 +1,7 @@
 // The calls on meshes for C and Rust. The result is the status, 0 or the refusal's number; the counts go out
 // through the last parameters, which a refusal leaves as they were.
 use crate::point;
+use mesh_draw::Drawing;
 use mesh_section::Plane;
 use mesh_section::Sectioned;
 use mesh_weld::Welded;
@@ -8,8 +9,9 @@ ghost use mathlib.Core.Path.{_≡_};
 ghost use mathlib.Core.List.{[], _∷_};
 ghost use Rattle.mesh_weld.specs.Call.{weldLeft};
 ghost use Rattle.mesh_section.specs.Call.{sectionLeft};
+ghost use Rattle.mesh_draw.specs.Call.{drawLeft};
 ghost use Rattle.ramikohy.specs.Points.{pointOf};
-ghost use Rattle.ramikohy.specs.Calls.{strokes, strokesBy, weld, weldBy};
+ghost use Rattle.ramikohy.specs.Calls.{strokes, strokesBy, weld, weldBy, draw, drawBy};
 
 // Welds the corners of faces.
 #[no_mangle]
@@ -70,5 +72,44 @@ pub extern "C" fn ramikohy_section(
             0
         }
         Sectioned::Refused(why) => refusal::number(why),
+    }
+}
+
+// Draws a mesh in the mode of a number.
+#[no_mangle]
+pub extern "C" fn ramikohy_draw(
+    vertices: &[f64],
+    indices: &[u32],
+    flips: &[u32],
+    mode: u32,
+    cos_theta: f64,
+    eye: &[f64; 3],
+    tolerance: f64,
+    scratch: &mut [u32],
+    seen: &mut [f64],
+    out_points: &mut [u32],
+    out_starts: &mut [u32],
+    point_count: &mut usize,
+    start_count: &mut usize,
+) -> u32
+    ensures { λ r. ⌜ draw r (now («point_count» .exit) ∷ now («start_count» .exit) ∷ []) (now (scratch .exit)) (now (seen .exit)) (now («out_points» .exit)) (now («out_starts» .exit))
+        ≡ drawBy
+        (drawLeft (now (vertices .entry)) (now (indices .entry)) (now (flips .entry)) mode «cos_theta» (pointOf (now (eye .entry))) tolerance
+        (now (scratch .entry)) (now (seen .entry)) (now («out_points» .entry)) (now («out_starts» .entry)))
+        (now («point_count» .entry) ∷ now («start_count» .entry) ∷ []) ⌝ }
+{
+    let e = point(eye);
+    match mesh_draw::draw(
+        vertices, indices, flips, mode, cos_theta, e, tolerance, scratch, seen, out_points, out_starts,
+    ) {
+        Drawing::Wrote {
+            points: p,
+            starts: s,
+        } => {
+            *point_count = p;
+            *start_count = s;
+            0
+        }
+        Drawing::Refused(why) => refusal::number(why),
     }
 }
