@@ -3,20 +3,13 @@ use Rattle.mesh_seen.proofs.Normals.{flat-square}
 use borrow.Author.Needs.{needs}
 use Rattle.mesh_seen.proofs.is_flat.Statement.{statement}
 use Rattle.mesh_seen.proofs.is_flat.Tie as tie
-use Rattle.mesh_seen.proofs.is_flat.Reads as reads
-use Rattle.mesh_seen.proofs.is_flat.Lts as lts
-use Rattle.mesh_seen.proofs.across.Reads as across-reads
-use Rattle.vector.proofs.Vector.length_squared.Reads as length-squared-reads
 
--- src/lib.rt:24:5
 across-requires : tie.Need-across-requires
 across-requires c κs = search needs
 
--- src/lib.rt:24:5
 length-squared-requires : tie.Need-length-squared-requires
 length-squared-requires c κs = search needs
 
--- src/lib.rt:21:1
 returns : tie.Need-returns
 returns c = flat-square (c .before .before .args .t) _ _ (c .before .across .ensures) (c .length-squared .ensures)
 

@@ -2,35 +2,25 @@
 use borrow.Author.Needs.{needs}
 use Rattle.mesh_seen.proofs.normal_at.Statement.{statement}
 use Rattle.mesh_seen.proofs.normal_at.Tie as tie
-use Rattle.mesh_seen.proofs.normal_at.Reads as reads
-use Rattle.mesh_seen.proofs.normal_at.Lts as lts
-use Rattle.path.proofs.number_at.Reads as number-at-reads
 
--- src/lib.rt:78:13
 mul-k : tie.Need-mul-k
 mul-k c = search needs
 
--- src/lib.rt:80:12
 number-at-requires : tie.Need-number-at-requires
 number-at-requires c κs = search needs
 
--- src/lib.rt:81:28
 add-number-at : tie.Need-add-number-at
 add-number-at c = search needs
 
--- src/lib.rt:81:12
 number-at-requires-2 : tie.Need-number-at-requires-2
 number-at-requires-2 c κs = search needs
 
--- src/lib.rt:82:28
 add-number-at-2 : tie.Need-add-number-at-2
 add-number-at-2 c = search needs
 
--- src/lib.rt:82:12
 number-at-requires-3 : tie.Need-number-at-requires-3
 number-at-requires-3 c κs = search needs
 
--- src/lib.rt:75:1
 returns : tie.Need-returns
 returns c = rw (c .before .before .number-at .ensures, c .before .number-at2 .ensures, c .number-at3 .ensures)
 

@@ -3,62 +3,43 @@ use Rattle.mesh_seen.proofs.Faces.{stored}
 use borrow.Author.Needs.{needs}
 use Rattle.mesh_seen.proofs.put_seen.Statement.{statement}
 use Rattle.mesh_seen.proofs.put_seen.Tie as tie
-use Rattle.mesh_seen.proofs.put_seen.Reads as reads
-use Rattle.mesh_seen.proofs.put_seen.Lts as lts
-use Rattle.mesh_seen.proofs.normal.Reads as normal-reads
-use Rattle.path.proofs.put.Reads as put-reads
-use Rattle.vector.proofs.Vector.dot.Reads as dot-reads
-use Rattle.vector.proofs.Vector.sub.Reads as sub-reads
 
--- src/lib.rt:55:13
 mul-k : tie.Need-mul-k
 mul-k c = search needs
 
--- src/lib.rt:56:9
 normal-requires : tie.Need-normal-requires
 normal-requires c κs = search needs
 
--- src/lib.rt:57:5
 put-requires : tie.Need-put-requires
 put-requires c κs = search needs
 
--- src/lib.rt:58:14
 add-put : tie.Need-add-put
 add-put c = search needs
 
--- src/lib.rt:58:5
 put-requires-2 : tie.Need-put-requires-2
 put-requires-2 c κs = search needs
 
--- src/lib.rt:59:14
 add-put-2 : tie.Need-add-put-2
 add-put-2 c = search needs
 
--- src/lib.rt:59:5
 put-requires-3 : tie.Need-put-requires-3
 put-requires-3 c κs = search needs
 
--- src/lib.rt:60:14
 add-put-3 : tie.Need-add-put-3
 add-put-3 c = search needs
 
--- src/lib.rt:60:27
 sub-requires : tie.Need-sub-requires
 sub-requires c κs = search needs
 
--- src/lib.rt:60:21
 dot-requires : tie.Need-dot-requires
 dot-requires c κs = search needs
 
--- src/lib.rt:60:5
 put-requires-4 : tie.Need-put-requires-4
 put-requires-4 c κs = search needs
 
--- src/lib.rt:52:1
 same-length : tie.Need-same-length
 same-length c = search needs
 
--- src/lib.rt:52:1
 returns : tie.Need-returns
 returns c =
     let a = c .before .before .before .before .before .before .before .before .before .before .before .before .before .before .before .before .before .before .before .before .args in
