@@ -1,0 +1,3 @@
+pub mod Kepts
+pub mod Modes
+pub mod Calls
