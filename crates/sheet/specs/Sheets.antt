@@ -74,8 +74,11 @@ unfoldable pub countsGood : ℕ → ℕ → ℕ → Bool
 countsGood vertices strokes points = leb vertices mostVertices && leb strokes mostStrokes && leb points mostPoints
 
 -- the offsets of starts and points, and the length to the byte: nothing is missing and nothing follows
-unfoldable pub placesGood : List ℕ → Bool
-placesGood bs = eqb (wordAt bs 4) 24 && eqb (wordAt bs 5) (24 + 4 * strokeCount bs) && eqb (length bs) (sizeOf (strokeCount bs) (pointCount bs))
+unfoldable pub placesGood : List ℕ → ℕ → ℕ → Bool
+placesGood bs strokes points = eqb (wordAt bs 4) 24 && eqb (wordAt bs 5) (24 + 4 * strokes) && eqb (length bs) (sizeOf strokes points)
+
+unfoldable pub headerGood : List ℕ → Bool
+headerGood bs = modeGood (modeIn bs) && countsGood (verticesIn bs) (strokeCount bs) (pointCount bs) && placesGood bs (strokeCount bs) (pointCount bs)
 
 -- each start is above the one before it and below n
 unfoldable pub strictFrom : ℕ → ℕ → List ℕ → Bool
@@ -89,6 +92,4 @@ tableGood n (s ∷ ss) = eqb s 0 && ltb s n && strictFrom n s ss
 
 -- bytes that are a sheet
 unfoldable pub isSheet : List ℕ → Bool
-isSheet bs =
-    modeGood (modeIn bs) && countsGood (verticesIn bs) (strokeCount bs) (pointCount bs) && placesGood bs
-    && tableGood (pointCount bs) (startsIn bs) && allBelow (verticesIn bs) (numbersIn bs)
+isSheet bs = headerGood bs && tableGood (pointCount bs) (startsIn bs) && allBelow (verticesIn bs) (numbersIn bs)
