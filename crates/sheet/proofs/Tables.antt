@@ -10,7 +10,7 @@ use native.Mathlib.Nat.{add-zero}
 use lib.ListN.{length, getD, take, drop, length-append}
 use lib.Seq.{drop-cons, take-all, take-at, drop-at}
 use lib.Dec.{leb, ltb, eqb}
-use borrow.Author.Tests.{leb-true, ltb-true, eqb-true, lt-ltb, le-ltb}
+use borrow.Author.Tests.{leb-true, ltb-true, eqb-true, lt-ltb, le-ltb, le-leb, eq-eqb}
 use Rattle.path.specs.Strokes.{goodFrom, goodStarts, gather, strokesOf, numberAt}
 use Rattle.path.specs.Laid.{nonEmpty, joined, startsFrom}
 use Rattle.path.proofs.Gathers.{length-gather}
@@ -27,6 +27,11 @@ module _ {A : Type 0} (at : ℕ → A) where
       let e : suc n + m ≡ suc (n + m) = omega arith in
       let f : a + suc n ≡ a + 1 + n = omega arith in
       rw (e, f, gather-add (a + 1) n m)
+
+  pub strokes-count : (n : ℕ) (ss : List ℕ) → length (strokesOf at n ss) ≡ length ss
+  unfolding strokesOf
+  strokes-count n [] = refl
+  strokes-count n (s ∷ ss) = ap suc (strokes-count n ss)
 
   -- what holds of a table, at its second start
   table-next : (n s t : ℕ) (ss : List ℕ) → goodFrom n s (t ∷ ss) ≡ true → (s ≤ t) × (t ≤ n) × (goodFrom n t ss ≡ true)
@@ -108,3 +113,76 @@ unfolding joined nonEmpty
 joined-kept [] = refl
 joined-kept ([] ∷ ss) = joined-kept ss
 joined-kept ((x ∷ xs) ∷ ss) = rw (joined-kept ss)
+
+-- ---- a table that rises strictly has no empty stroke
+
+strict-next : (n s t : ℕ) (ss : List ℕ) → strictFrom n s (t ∷ ss) ≡ true → (ltb s t ≡ true) × (ltb t n ≡ true) × (strictFrom n t ss ≡ true)
+unfolding strictFrom
+strict-next n s t ss g =
+    let b = both (ltb s t && ltb t n) (strictFrom n t ss) g in
+    let d = both (ltb s t) (ltb t n) (b .0) in
+    (d .0, d .1, b .1)
+
+strict-good : (n s : ℕ) (ss : List ℕ) → strictFrom n s ss ≡ true → goodFrom n s ss ≡ true
+unfolding goodFrom
+strict-good n s [] g = refl
+strict-good n s (t ∷ ss) g =
+    let k = strict-next n s t ss g in
+    let a = ltb-true s t (k .0) in
+    let b = ltb-true t n (k .1) in
+    rw (le-leb s t (omega arith), le-leb t n (omega arith), strict-good n t ss (k .2))
+
+strict-kept : (n s : ℕ) (ss : List ℕ) → ltb s n ≡ true → strictFrom n s ss ≡ true → keptFrom n (s ∷ ss) ≡ s ∷ ss
+unfolding keptFrom
+strict-kept n s [] h g = rw h
+strict-kept n s (t ∷ ss) h g =
+    let k = strict-next n s t ss g in
+    rw (k .0) (ap (λ (l : List ℕ). s ∷ l) (strict-kept n t ss (k .1) (k .2)))
+
+pub table-good : (n : ℕ) (ss : List ℕ) → tableGood n ss ≡ true → (goodStarts n ss ≡ true) × (keptFrom n ss ≡ ss)
+unfolding tableGood goodStarts keptFrom
+table-good n [] g = (g, refl)
+table-good n (s ∷ ss) g =
+    let b = both (eqb s 0 && ltb s n) (strictFrom n s ss) g in
+    let d = both (eqb s 0) (ltb s n) (b .0) in
+    (rw (d .0, strict-good n s ss (b .1)), strict-kept n s ss (d .1) (b .1))
+
+-- ---- the starts of strokes that have points rise strictly
+
+strict-starts : {A : Type 0} (n p a : ℕ) (ss : List (List A)) → p < a → n ≡ a + length (joined ss) → strictFrom n p (startsFrom a (nonEmpty ss)) ≡ true
+unfolding strictFrom startsFrom nonEmpty joined
+strict-starts n p a [] h e = refl
+strict-starts n p a ([] ∷ ss) h e = strict-starts n p a ss h e
+strict-starts n p a ((x ∷ xs) ∷ ss) h e =
+    let l = length-append xs (joined ss) in
+    rw (lt-ltb p a h, lt-ltb a n (omega arith)) (strict-starts n a (a + suc (length xs)) ss (omega arith) (omega arith))
+
+pub table-starts : {A : Type 0} (n : ℕ) (ss : List (List A)) → n ≡ length (joined ss) → tableGood n (startsFrom 0 (nonEmpty ss)) ≡ true
+unfolding tableGood startsFrom nonEmpty joined
+table-starts n [] e = eq-eqb n 0 e
+table-starts n ([] ∷ ss) e = table-starts n ss e
+table-starts n ((x ∷ xs) ∷ ss) e =
+    let l = length-append xs (joined ss) in
+    rw (lt-ltb 0 n (omega arith)) (strict-starts n 0 (0 + suc (length xs)) ss (omega arith) (omega arith))
+
+-- ---- strokes are read back from their elements in a row and their starts
+
+module _ {A : Type 0} (at : ℕ → A) where
+  next-start : (a n : ℕ) (x : List A) (xs : List (List A)) → n ≡ a + length (joined (x ∷ xs)) → getD (startsFrom (a + length x) xs) 0 n ≡ a + length x
+  unfolding startsFrom joined
+  next-start a n x [] e = omega (arith, length-append x [])
+  next-start a n x (y ∷ ys) e = refl
+
+  pub strokes-again : (ss : List (List A)) (a n : ℕ) → n ≡ a + length (joined ss) → gather at a (length (joined ss)) ≡ joined ss → strokesOf at n (startsFrom a ss) ≡ ss
+  unfolding strokesOf startsFrom joined
+  strokes-again [] a n e g = refl
+  strokes-again (x ∷ xs) a n e g =
+      let k = length x in
+      let r = length (joined xs) in
+      let l : length (x ++ joined xs) ≡ k + r = length-append x (joined xs) in
+      let h : gather at a k ++ gather at (a + k) r ≡ x ++ joined xs = sym (gather-add at a k r) ∙ ap (gather at a) (sym l) ∙ g in
+      let first : gather at a k ≡ x = sym (take-at (gather at a k) (gather at (a + k) r) k (length-gather at a k)) ∙ ap (take k) h ∙ take-at x (joined xs) k refl in
+      let rest : gather at (a + k) r ≡ joined xs = sym (drop-at (gather at a k) (gather at (a + k) r) k (length-gather at a k)) ∙ ap (drop k) h ∙ drop-at x (joined xs) k refl in
+      let d : a + k - a ≡ k = omega arith in
+      let tail : strokesOf at n (startsFrom (a + k) xs) ≡ xs = strokes-again xs (a + k) n (omega (arith, l)) rest in
+      rw (next-start a n x xs e, d, first, tail)
