@@ -3,7 +3,7 @@ use mathlib.Core.Path.{_≡_, refl, sym, ap, _∙_}
 use mathlib.Core.Logic.{_⊎_, inl, inr}
 use mathlib.Core.Bool.{true, _&&_}
 use mathlib.Core.List.{List, [], _∷_}
-use Prim.Native.Nat.{ℕ, zero, suc, _+_, _-_, _≤_, _<_}
+use Prim.Native.Nat.{ℕ, zero, suc, _+_, _-_, _*_, _≤_, _<_}
 use native.Mathlib.Omega.{arith}
 use native.Mathlib.Numerals.{add-one}
 use native.Mathlib.Nat.{add-zero}
@@ -49,6 +49,12 @@ part-is ps s t e a he ha = ends (least-is t (length ps)) (least-is s e)
         let y : a ≡ e = ha ∙ k .0 in
         let u : e - a ≡ 0 = omega arith in
         rw (u, drop-of-length-le ps {i = s} (omega (arith, k .1)), take-nil {A = ℕ} (t - s))
+
+-- where the part lies
+pub part-at : (o s t n e a : ℕ) → e ≡ least t n → a ≡ least s e → a * 4 + o ≡ o + least s (least t n) * 4
+part-at o s t n e a he ha =
+    let x : a ≡ least s (least t n) = ha ∙ ap (least s) he in
+    rw (← x) (omega arith)
 
 -- numbers that are read by place are those of the part
 gather-part : (ps : List ℕ) (a n : ℕ) → a + n ≤ length ps → gather (numberAt ps) a n ≡ take n (drop a ps)

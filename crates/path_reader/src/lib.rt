@@ -4,7 +4,7 @@ use path::end_of;
 ghost use mathlib.Core.Path.{_≡_};
 ghost use Prim.Native.Nat.{_≤_};
 ghost use lib.ListN.{getD};
-ghost use Rattle.path_reader.specs.Reading.{least, strokeAt, leftAt, after};
+ghost use Rattle.path_reader.specs.Reading.{least, Own, leftAt, after};
 
 // The lent points and starts, and the number of the stroke that comes next.
 pub struct Reader<'a> {
@@ -36,7 +36,7 @@ fn start_of(starts: &[u32], i: usize, n: usize) -> usize
 
 // The points of stroke i, a part of the slice; past the table none.
 pub fn stroke_at<'a>(points: &'a [u32], starts: &'a [u32], i: usize) -> &'a [u32]
-    ensures { λ r. ⌜ now r ≡ strokeAt (now (points .entry)) (now (starts .entry)) i ⌝ }
+    ensures { λ r. ⌜ Own (points .entry) (now (starts .entry)) i r ⌝ }
 {
     let n = points.len();
     let e = lesser(end_of(starts, i, n), n);
@@ -84,7 +84,7 @@ pub fn left<'a>(r: Reader<'a>) -> usize
 
 // The stroke that comes next, the caller's own part.
 pub fn next<'a>(r: Reader<'a>) -> &'a [u32]
-    ensures { λ s. ⌜ now s ≡ strokeAt (now (r .entry .points)) (now (r .entry .starts)) (r .entry .at) ⌝ }
+    ensures { λ s. ⌜ Own (r .entry .points) (now (r .entry .starts)) (r .entry .at) s ⌝ }
 {
     stroke_at(r.points, r.starts, r.at)
 }

@@ -41,7 +41,7 @@ use denote.Triple.Table.{entered, cited}
 use denote.Triple.Walked.{says, Stays, stay-none, walkOf, goes-none, Walks, ends-at, walked, walk-meets}
 use denote.Exit.{yes}
 use denote.Triple.Clauses.{ensured, lasts}
-use Rattle.path_reader.specs.Reading.{strokeAt}
+use Rattle.path_reader.specs.Reading.{Own}
 use Rattle.path_reader.specs.declared.Reader.{Reader}
 use Rattle.path_reader.proofs.Reader as T
 use Rattle.path_reader.proofs.Reader.Laws as T′
@@ -77,14 +77,15 @@ module _ {M : Type 1} (𝓤 : URA M) (H : Heap 𝓤) (A : Atoms 𝓤) (W : Given
   abbrev w : Val
   w = sliceVal (d .starts .ptr) (length (d .starts .now))
 
-  abbrev found : List ℕ
-  found = strokeAt (now (d .points)) (now (d .starts)) (d .at)
+  -- what is known of the part that is handed out
+  abbrev Found : RefT (List ℕ) → Type 0
+  Found r = Own (d .points) (now (d .starts)) (d .at) r
 
   abbrev Post : Val → SProp 𝓤
   Post = walkOf 𝓤 H A next.ended stayed (next.clauses 𝓤 H A mem run) .post (((κ, tt), (q, tt), tt, (d, tt), (mach ∷ [], tt)), tt)
 
-  abbrev Own : Fml
-  Own = B (κ, tt) .own d (mach ∷ [])
+  abbrev Mine : Fml
+  Mine = B (κ, tt) .own d (mach ∷ [])
 
   -- the struct's type and laws, and d's fields' values
   abbrev D : Declared
@@ -107,21 +108,21 @@ module _ {M : Type 1} (𝓤 : URA M) (H : Heap 𝓤) (A : Atoms 𝓤) (W : Given
   asked = qed W ((‵ (flft κ q) ⊛ ‵ ftrue) ∷ ‵ (owns (ShrSlice (named 0) κ u32 ∷ ShrSlice (named 0) κ u32 ∷ usize ∷ []) vd passed) ∷ []) ∵ join ! $ frame ! $ done !
 
   -- what the struct owns gives what the callee asks, and is kept
-  apart : ent 𝓤 (onEntry 𝓤 H A next.signature (κ, tt) (q, tt) (d, tt) (mach ∷ [], tt)) (sep 𝓤 (StrokeAt 𝓤 H A mem run .pre to) (sem 𝓤 H A Own))
+  apart : ent 𝓤 (onEntry 𝓤 H A next.signature (κ, tt) (q, tt) (d, tt) (mach ∷ [], tt)) (sep 𝓤 (StrokeAt 𝓤 H A mem run .pre to) (sem 𝓤 H A Mine))
   apart =
       qed W ((‵ (flft κ q) ⊛ ‵ ftrue) ∷ ‵ (owns (B (κ, tt) ∷ []) (d, tt) (mach ∷ [], tt)) ∷ []) ∵
-      move ! (1 ∷ []) $ fsplit ! $ move ! (1 ∷ []) $ drop ! $ use1 W (‵ Own ⊛ ‵ Own) (LL.copy D (T′.the-copy (namedLft 1 0 tt (κ, tt))) 𝓤 H A W .twice d (mach ∷ [])) $ split ! $
+      move ! (1 ∷ []) $ fsplit ! $ move ! (1 ∷ []) $ drop ! $ use1 W (‵ Mine ⊛ ‵ Mine) (LL.copy D (T′.the-copy (namedLft 1 0 tt (κ, tt))) 𝓤 H A W .twice d (mach ∷ [])) $ split ! $
       use1 W (given (mach ∷ [] ≡ mach ∷ []) (‵ (all-own (D .parts) L vd))) (own-open 𝓤 H A W D L vd mach) $ learn ! (λ _.
       -- [what the fields own together; what the struct owns; the token]
       move ! (2 ∷ 0 ∷ []) $ use2 W (raw (StrokeAt 𝓤 H A mem run .pre to)) asked $ frame ! $ done !)
 
   -- of the callee's `ensured`, the clause alone: it has no `&mut`, so what is said of last values is dropped
-  said : (r : RefT (List ℕ)) → ent 𝓤 (ensured 𝓤 H A at.ended (at.clauses 𝓤 H A mem run) (κ, tt) vd tt r) (fact 𝓤 (now r ≡ found))
-  said r = exE 𝓤 _ (λ ws. snd∗ 𝓤 (sem 𝓤 H A (lasts at.ended (κ, tt) vd ws)) (fact 𝓤 (now r ≡ found)))
+  said : (r : RefT (List ℕ)) → ent 𝓤 (ensured 𝓤 H A at.ended (at.clauses 𝓤 H A mem run) (κ, tt) vd tt r) (fact 𝓤 (Found r))
+  said r = exE 𝓤 _ (λ ws. snd∗ 𝓤 (sem 𝓤 H A (lasts at.ended (κ, tt) vd ws)) (fact 𝓤 (Found r)))
 
-  exits : (r : RefT (List ℕ)) (u : Val) → now r ≡ found → ent 𝓤 (⋆ 𝓤 H A (‵ (ShrSlice (named 0) κ u32 .own r (u ∷ [])) ∷ (‵ (flft κ q) ⊛ ‵ ftrue) ∷ ‵ Own ∷ [])) (Post u)
+  exits : (r : RefT (List ℕ)) (u : Val) → Found r → ent 𝓤 (⋆ 𝓤 H A (‵ (ShrSlice (named 0) κ u32 .own r (u ∷ [])) ∷ (‵ (flft κ q) ⊛ ‵ ftrue) ∷ ‵ Mine ∷ [])) (Post u)
   exits r u e =
-      qed W (‵ (ShrSlice (named 0) κ u32 .own r (u ∷ [])) ∷ (‵ (flft κ q) ⊛ ‵ ftrue) ∷ ‵ Own ∷ []) ∵
+      qed W (‵ (ShrSlice (named 0) κ u32 .own r (u ∷ [])) ∷ (‵ (flft κ q) ⊛ ‵ ftrue) ∷ ‵ Mine ∷ []) ∵
       suffices ! _ (ends-at 𝓤 H A next.ended stayed (next.clauses 𝓤 H A mem run) W (((κ, tt), (q, tt), tt, (d, tt), (mach ∷ [], tt)), tt) u r (tt, tt) (tt, tt)) $ says ! e $
       move ! (1 ∷ []) $ frame ! $ nothing ! $ move ! (2 ∷ 0 ∷ []) $ fjoin ! $ frame ! $ done !
 
@@ -133,10 +134,10 @@ module _ {M : Type 1} (𝓤 : URA M) (H : Heap 𝓤) (A : Atoms 𝓤) (W : Given
         assigns ! (of-opd ! (load ! (from ! (fld ! refl (stop !))) (look-in ! 6 (sub ! 0 refl (whole !))))) (from ! (stop !)) (init ! 4 refl (tt, wt .1 .0)) $
         assigns ! (of-opd ! (load ! (from ! (fld ! refl (stop !))) (look-in ! 6 (sub ! 1 refl (whole !))))) (from ! (stop !)) (init ! 2 refl (tt, wt .1 .1 .0)) $
         assigns ! (of-opd ! (load ! (from ! (fld ! refl (stop !))) (look-in ! 6 (sub ! 2 refl (whole !))))) (from ! (stop !)) (init ! 0 refl (tt, wt .1 .1 .1 .0)) $
-        move ! (10 ∷ []) $ use1 W (raw (StrokeAt 𝓤 H A mem run .pre to) ⊛ ‵ Own) apart $ split ! $
+        move ! (10 ∷ []) $ use1 W (raw (StrokeAt 𝓤 H A mem run .pre to) ⊛ ‵ Mine) apart $ split ! $
         calls-at ! fm (StrokeAt 𝓤 H A mem run) known to (and-then ! (load ! (from ! (stop !)) (look ! 6 refl)) (and-then ! (load ! (from ! (stop !)) (look ! 4 refl)) (and-then ! (load ! (from ! (stop !)) (look ! 2 refl)) (no-more !)))) (λ u.
         use1 W (later (some (λ (r : RefT (List ℕ)). ((‵ (flft κ q) ⊛ ‵ ftrue) ⊛ ‵ (ShrSlice (named 0) κ u32 .own r (u ∷ []))) ⊛ raw (ensured 𝓤 H A at.ended (at.clauses 𝓤 H A mem run) (κ, tt) vd tt r)))) (id⊢ 𝓤 _) $ await ! tt $ pick ! (λ r.
-        split ! $ move ! (1 ∷ []) $ use1 W (raw (fact 𝓤 (now r ≡ found))) (said r) $ heard ! (now r ≡ found) (λ e. split ! $ move ! (1 ∷ []) $
+        split ! $ move ! (1 ∷ []) $ use1 W (raw (fact 𝓤 (Found r))) (said r) $ heard ! (Found r) (λ e. split ! $ move ! (1 ∷ []) $
         -- [the result; the token; what the struct owns; _4; …; _3; …; _2; …; _1; …; room for _0; …]
         peeks ! (ShrSlice (named 0) κ u32) (Is (ShrSlice (named 0) κ u32)) (shows 𝓤 H A (ShrSlice (named 0) κ u32)) r (u ∷ []) (λ is.
         land ! (from ! (stop !)) (init ! 11 refl (shr-slice-lawful 𝓤 H A W (named 0) κ u32 .typed r (u ∷ []) is .0)) $

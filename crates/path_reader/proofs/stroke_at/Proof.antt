@@ -1,9 +1,9 @@
 -- `stroke_at` meets its contract: the start and the end are brought within the slice, which does not change the part.
-use mathlib.Core.Path.{ap, _∙_}
+use mathlib.Core.Path.{refl, ap, _∙_}
 use Prim.Native.Nat.{ℕ}
 use lib.ListN.{length}
 use Rattle.path_reader.specs.Reading.{least, strokeAt}
-use Rattle.path_reader.proofs.Parts.{part-is}
+use Rattle.path_reader.proofs.Parts.{part-is, part-at}
 use borrow.Author.Needs.{needs}
 use Rattle.path_reader.proofs.stroke_at.Statement.{statement}
 use Rattle.path_reader.proofs.stroke_at.Tie as tie
@@ -37,7 +37,9 @@ unfolding strokeAt
 returns c =
     let a = c .before .before .before .before .before .before .before .args in
     let n = length (a .points .now) in
-    part-is (a .points .now) _ _ _ _ (c .before .before .before .lesser .ensures .0 ∙ ap (λ (x : ℕ). least x n) (c .before .before .before .before .end-of .ensures)) (c .before .lesser2 .ensures .0 ∙ ap (λ (x : ℕ). least x (c .before .before .before .lesser .result)) (c .before .before .start-of .ensures))
+    let e = c .before .before .before .lesser .ensures .0 ∙ ap (λ (x : ℕ). least x n) (c .before .before .before .before .end-of .ensures) in
+    let f = c .before .lesser2 .ensures .0 ∙ ap (λ (x : ℕ). least x (c .before .before .before .lesser .result)) (c .before .before .start-of .ensures) in
+    record { holds = part-is (a .points .now) _ _ _ _ e f; block = refl; place = part-at (a .points .ptr .1) _ _ n _ _ e f }
 
 pub stroke-at-spec : {M : Type 1} → statement M
 stroke-at-spec =
