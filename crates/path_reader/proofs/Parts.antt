@@ -13,6 +13,8 @@ use lib.Dec.{leb, ltb, eqb}
 use borrow.Author.Tests.{leb-true, eqb-true, lt-ltb, le-ltb}
 use Rattle.path.specs.Strokes.{goodFrom, goodStarts, gather, strokesOf, numberAt}
 use Rattle.path.proofs.Tests.{both, split}
+use Rattle.path.proofs.Gathers.{gather-drop}
+use Rattle.path.proofs.Starts.{table-next}
 use Rattle.path_reader.specs.Reading.{least, strokeAt, leftAt, after, handed}
 
 -- the lesser of two numbers is at most either
@@ -56,20 +58,6 @@ part-at o s t n e a he ha =
     let x : a ≡ least s (least t n) = ha ∙ ap (least s) he in
     rw (← x) (omega arith)
 
--- numbers that are read by place are those of the part
-gather-part : (ps : List ℕ) (a n : ℕ) → a + n ≤ length ps → gather (numberAt ps) a n ≡ take n (drop a ps)
-unfolding gather
-gather-part ps a zero h = refl
-gather-part ps a (suc n) h = ap (λ (l : List ℕ). getD ps a 0 ∷ l) (gather-part ps (a + 1) n (omega arith)) ∙ rw (drop-cons ps a 0 (omega arith), add-one)
-
--- a table from its second start on
-table-next : (n s t : ℕ) (ss : List ℕ) → goodFrom n s (t ∷ ss) ≡ true → (s ≤ t) × (t ≤ n) × (goodFrom n t ss ≡ true)
-unfolding goodFrom
-table-next n s t ss g =
-    let b = both (leb s t && leb t n) (goodFrom n t ss) g in
-    let d = both (leb s t) (leb t n) (b .0) in
-    (leb-true s t (d .0), leb-true t n (d .1), b .1)
-
 -- what stands first in the rest of a list, and what comes after it
 module _ (l : List ℕ) (j x : ℕ) (m : List ℕ) (q : drop j l ≡ x ∷ m) where
   within : j < length l
@@ -88,7 +76,7 @@ module _ (l : List ℕ) (j x : ℕ) (m : List ℕ) (q : drop j l ≡ x ∷ m) wh
 module _ (ps ss : List ℕ) (i s : ℕ) (rest : List ℕ) (q : drop i ss ≡ s ∷ rest) where
   stroke-is : s ≤ getD rest 0 (length ps) → getD rest 0 (length ps) ≤ length ps → strokeAt ps ss i ≡ gather (numberAt ps) s (getD rest 0 (length ps) - s)
   unfolding strokeAt
-  stroke-is h k = rw (at-first ss i s rest q (length ps), at-second ss i s rest q (length ps)) (sym (gather-part ps s (getD rest 0 (length ps) - s) (omega arith)))
+  stroke-is h k = rw (at-first ss i s rest q (length ps), at-second ss i s rest q (length ps)) (sym (gather-drop ps s (getD rest 0 (length ps) - s) (omega arith)))
 
   after-is : after ss i ≡ i + 1
   after-is = rw (lt-ltb i (length ss) (within ss i s rest q))

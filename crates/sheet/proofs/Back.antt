@@ -15,13 +15,13 @@ use Rattle.refusal.specs.Limits.{mostVertices, mostStrokes, mostPoints}
 use Rattle.path.specs.Strokes.{goodFrom, goodStarts, gather, strokesOf, numberAt}
 use Rattle.path.specs.Laid.{nonEmpty, joined, startsFrom}
 use Rattle.path.proofs.Tests.{both}
-use Rattle.path.proofs.Gathers.{length-gather}
+use Rattle.path.proofs.Gathers.{length-gather, gather-drop}
 use Rattle.path.proofs.Pushes.{length-starts}
 use Rattle.mesh.specs.Meshes.{allBelow}
 use Rattle.sheet.specs.Sheets.{bytesOf, bytesAll, wordAt, headerOf, wordsOf, sheetOf, sizeOf, strokesIn, modeIn, verticesIn, strokeCount, pointCount, startsIn, numbersIn, modeGood, countsGood, placesGood, strictFrom, tableGood, headerGood, isSheet}
 use Rattle.sheet.proofs.Words.{length-bytes}
 use Rattle.sheet.proofs.Sizes.{words-size}
-use Rattle.sheet.proofs.Tables.{gather-add, gather-drop, gather-all, joined-all, joined-kept, kept-all, table-good, table-starts, strokes-again}
+use Rattle.sheet.proofs.Tables.{gather-add, gather-all, joined-all, joined-kept, kept-all, table-good, table-starts, strokes-again}
 
 -- the words that fit four bytes
 abbrev wordLimit : ℕ

@@ -13,7 +13,8 @@ use lib.Dec.{leb, ltb, eqb}
 use borrow.Author.Tests.{leb-true, ltb-true, eqb-true, lt-ltb, le-ltb, le-leb, eq-eqb}
 use Rattle.path.specs.Strokes.{goodFrom, goodStarts, gather, strokesOf, numberAt}
 use Rattle.path.specs.Laid.{nonEmpty, joined, startsFrom}
-use Rattle.path.proofs.Gathers.{length-gather}
+use Rattle.path.proofs.Gathers.{length-gather, gather-drop}
+use Rattle.path.proofs.Starts.{table-next}
 use Rattle.path.proofs.Tests.{both, split}
 use Rattle.path.proofs.Pushes.{length-starts}
 use Rattle.sheet.specs.Kept.{keptOne, keptFrom}
@@ -32,14 +33,6 @@ module _ {A : Type 0} (at : ℕ → A) where
   unfolding strokesOf
   strokes-count n [] = refl
   strokes-count n (s ∷ ss) = ap suc (strokes-count n ss)
-
-  -- what holds of a table, at its second start
-  table-next : (n s t : ℕ) (ss : List ℕ) → goodFrom n s (t ∷ ss) ≡ true → (s ≤ t) × (t ≤ n) × (goodFrom n t ss ≡ true)
-  unfolding goodFrom
-  table-next n s t ss g =
-      let b = both (leb s t && leb t n) (goodFrom n t ss) g in
-      let d = both (leb s t) (leb t n) (b .0) in
-      (leb-true s t (d .0), leb-true t n (d .1), b .1)
 
   -- the strokes of a table are its elements in a row
   pub joined-from : (n s : ℕ) (ss : List ℕ) → s ≤ n → goodFrom n s ss ≡ true → joined (strokesOf at n (s ∷ ss)) ≡ gather at s (n - s)
@@ -86,11 +79,6 @@ module _ {A : Type 0} (at : ℕ → A) where
   kept-count n ss g = sym (length-starts 0 (nonEmpty (strokesOf at n ss))) ∙ ap length (kept-all n ss g)
 
 -- a list is its numbers, read by place
-pub gather-drop : (ns : List ℕ) (a n : ℕ) → a + n ≤ length ns → gather (numberAt ns) a n ≡ take n (drop a ns)
-unfolding gather
-gather-drop ns a zero h = refl
-gather-drop ns a (suc n) h = ap (λ (l : List ℕ). getD ns a 0 ∷ l) (gather-drop ns (a + 1) n (omega arith)) ∙ rw (drop-cons ns a 0 (omega arith), add-one)
-
 pub gather-all : (ns : List ℕ) → gather (numberAt ns) 0 (length ns) ≡ ns
 gather-all ns = gather-drop ns 0 (length ns) (omega arith) ∙ take-all (length ns) ns (omega arith)
 
