@@ -48,7 +48,7 @@ word-back [] k b h = absurd (omega arith)
 word-back (w ∷ ws) zero b h = word-first w (bytesAll ws) (ltb-true w wordLimit (both (ltb w wordLimit) (allBelow wordLimit ws) b .0))
 word-back (w ∷ ws) (suc k) b h = word-next _ _ _ _ (bytesAll ws) k ∙ word-back ws k (both (ltb w wordLimit) (allBelow wordLimit ws) b .1) (omega arith)
 
-gather-same : (f g : ℕ → ℕ) (a n : ℕ) → ((k : ℕ) → k < a + n → f k ≡ g k) → gather f a n ≡ gather g a n
+pub gather-same : (f g : ℕ → ℕ) (a n : ℕ) → ((k : ℕ) → k < a + n → f k ≡ g k) → gather f a n ≡ gather g a n
 unfolding gather
 gather-same f g a zero h = refl
 gather-same f g a (suc n) h = rw (h a (omega arith), gather-same f g (a + 1) n (λ k l. h k (omega arith)))

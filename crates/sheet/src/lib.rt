@@ -32,7 +32,7 @@ pub fn word_at(bytes: &[u8], k: usize) -> u32
 }
 
 // Stores a byte at place i; past the end nothing.
-fn put_byte(out: &mut [u8], i: usize, b: u8)
+pub fn put_byte(out: &mut [u8], i: usize, b: u8)
     ensures { λ _. ⌜ now (out .exit) ≡ set (now (out .entry)) i b ⌝ }
 {
     if i < out.len() {

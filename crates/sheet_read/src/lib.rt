@@ -131,7 +131,7 @@ fn words_below(bytes: &[u8], a: usize, e: usize, n: u32) -> bool
 }
 
 // Whether the bytes are a sheet.
-fn is_sheet(bytes: &[u8]) -> bool
+pub fn is_sheet(bytes: &[u8]) -> bool
     ensures { λ r. ⌜ r ≡ isSheet (now (bytes .entry)) ⌝ }
 {
     if !header_good(bytes) {
