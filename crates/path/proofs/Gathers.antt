@@ -1,13 +1,13 @@
 -- Laws of strokes read from a list by place. Assumes nothing.
-use mathlib.Core.Path.{_≡_, refl, ap}
+use mathlib.Core.Path.{_≡_, refl, ap, _∙_}
 use mathlib.Core.List.{List, [], _∷_, map}
 use Prim.Native.Nat.{ℕ, zero, suc, _+_, _-_, _≤_, _<_}
 use native.Mathlib.Omega.{arith}
 use native.Mathlib.Numerals.{add-one}
 use native.Mathlib.Nat.{add-zero}
-use lib.ListN.{length, getD, drop, drop-of-length-le}
+use lib.ListN.{length, getD, take, drop, drop-of-length-le}
 use lib.Seq.{drop-cons, getD-drop}
-use Rattle.path.specs.Strokes.{gather, strokesOf}
+use Rattle.path.specs.Strokes.{gather, strokesOf, numberAt}
 
 module _ {A : Type 0} (at : ℕ → A) where
   -- counting up to e: one is left, and then those after it
@@ -34,3 +34,9 @@ module _ {A C : Type 0} (f : List A → C) (at : ℕ → A) (n : ℕ) (ss : List
   pub strokes-none : length ss ≤ i → map f (strokesOf at n (drop i ss)) ≡ []
   unfolding strokesOf
   strokes-none h = rw (drop-of-length-le ss h)
+
+-- numbers that are read by place are those of a part of the list
+pub gather-drop : (ns : List ℕ) (a n : ℕ) → a + n ≤ length ns → gather (numberAt ns) a n ≡ take n (drop a ns)
+unfolding gather
+gather-drop ns a zero h = refl
+gather-drop ns a (suc n) h = ap (λ (l : List ℕ). getD ns a 0 ∷ l) (gather-drop ns (a + 1) n (omega arith)) ∙ rw (drop-cons ns a 0 (omega arith), add-one)

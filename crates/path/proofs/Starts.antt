@@ -1,15 +1,16 @@
 -- Laws of a start table, read from the front. Assumes nothing.
 use mathlib.Core.Path.{_≡_, refl}
-use mathlib.Core.Bool.{true, false}
+use mathlib.Core.Bool.{true, false, _&&_}
 use mathlib.Core.List.{List, [], _∷_}
 use Prim.Native.Nat.{ℕ, zero, suc, _+_, _≤_, _<_}
 use native.Mathlib.Omega.{arith}
 use native.Mathlib.Numerals.{add-one}
 use lib.ListN.{length, getD, drop, drop-of-length-le}
 use lib.Seq.{drop-cons}
-use lib.Dec.{eqb}
-use borrow.Author.Tests.{le-leb, lt-leb, eq-eqb, ne-eqb}
+use lib.Dec.{leb, eqb}
+use borrow.Author.Tests.{le-leb, lt-leb, eq-eqb, ne-eqb, leb-true}
 use Rattle.path.specs.Strokes.{goodFrom, goodStarts}
+use Rattle.path.proofs.Tests.{both}
 
 pub good-none : (n : ℕ) (ss : List ℕ) → length ss ≡ 0 → goodStarts n ss ≡ eqb n 0
 unfolding goodStarts
@@ -48,3 +49,11 @@ pub getD-any : {A : Type 0} (l : List A) (i : ℕ) (x y : A) → i < length l �
 getD-any [] i x y h = absurd (omega arith)
 getD-any (a ∷ l) zero x y h = refl
 getD-any (a ∷ l) (suc i) x y h = getD-any l i x y (omega arith)
+
+-- what holds of a table, at its second start
+pub table-next : (n s t : ℕ) (ss : List ℕ) → goodFrom n s (t ∷ ss) ≡ true → (s ≤ t) × (t ≤ n) × (goodFrom n t ss ≡ true)
+unfolding goodFrom
+table-next n s t ss g =
+    let b = both (leb s t && leb t n) (goodFrom n t ss) g in
+    let d = both (leb s t) (leb t n) (b .0) in
+    (leb-true s t (d .0), leb-true t n (d .1), b .1)

@@ -1,0 +1,139 @@
+-- Digits, numbers and lines written one after the other. Assumes nothing.
+use mathlib.Core.Path.{_≡_, refl, sym, ap, _∙_}
+use mathlib.Core.Bool.{true, false}
+use mathlib.Core.List.{List, [], _∷_, _++_}
+use Prim.Native.Nat.{ℕ, zero, suc, _+_, _-_, _*_, _/_, _%_, _≤_, _<_}
+use native.Mathlib.Omega.{arith}
+use native.Mathlib.Numerals.{add-one}
+use native.Mathlib.Nat.{add-zero, mul-comm, le-div-iff-mul-le}
+use lib.ListN.{length, getD, set, List·getD-eq-default}
+use lib.Seq.{sets}
+use lib.Dec.{ltb}
+use borrow.Author.Tests.{lt-ltb, le-ltb}
+use Rattle.path.specs.Strokes.{gather}
+use Rattle.path.specs.Laid.{Pen, pen, inked}
+use Rattle.path.proofs.Points.{numbers-lie}
+use Rattle.path.proofs.Pushes.{ink-none, ink-append}
+use Rattle.path.proofs.Gathers.{gather-more, gather-none, length-gather}
+use Rattle.sheet_list.specs.Listing.{topFrom, digitsFrom, decimal, spaced, lineOf, linesOf, refusedText}
+use Rattle.sheet.specs.Sheets.{bytesOf}
+
+-- one byte, and those after it
+pub ink-more : (b : List ℕ) (k x : ℕ) (xs : List ℕ) → inked sets (pen (set b k x) (k + 1)) xs ≡ inked sets (pen b k) (x ∷ xs)
+unfolding inked
+ink-more b k x xs = let e : k + suc (length xs) ≡ k + 1 + length xs = omega arith in rw (e, add-one k)
+
+pub ink-two : (b : List ℕ) (k : ℕ) (a d : List ℕ) {b′ : List ℕ} {k′ : ℕ} → pen b′ k′ ≡ inked sets (pen b k) a → inked sets (pen b′ k′) d ≡ inked sets (pen b k) (a ++ d)
+ink-two b k a d e = ap (λ (p : Pen ℕ). inked sets p d) e ∙ ink-append numbers-lie (pen b k) a d
+
+-- the power of ten, one step up
+module _ (f p n : ℕ) where
+  pub top-here : n / p < 10 → topFrom (suc f) p n ≡ p
+  unfolding topFrom
+  top-here h = rw (lt-ltb (n / p) 10 h)
+
+  pub top-up : 10 ≤ n / p → topFrom (suc f) p n ≡ topFrom f (p * 10) n
+  unfolding topFrom
+  top-up h = rw (le-ltb (n / p) 10 h)
+
+  pub digits-none : p ≡ 0 → digitsFrom (suc f) p n ≡ []
+  unfolding digitsFrom
+  digits-none e = rw e
+
+  pub digits-more : 0 < p → digitsFrom (suc f) p n ≡ (48 + n / p % 10) ∷ digitsFrom f (p / 10) n
+  unfolding digitsFrom
+  digits-more h = rw (lt-ltb 0 p h)
+
+-- ten times a power that is not above n / 10
+pub ten-times : (p n : ℕ) → 1 ≤ p → 10 ≤ n / p → p * 10 ≤ n
+ten-times p n h k = let m = le-div-iff-mul-le {k = p} {x = 10} {y = n} (omega arith) .0 k in omega (arith, m, mul-comm p 10)
+
+-- the loops' turns
+module _ (i p n t : ℕ) where
+  pub top-turn : i < 9 → 10 ≤ n / p → topFrom (9 - i) p n ≡ t → topFrom (9 - (i + 1)) (p * 10) n ≡ t
+  top-turn h k e =
+      let s : 9 - i ≡ suc (9 - (i + 1)) = omega arith in
+      sym (top-up (9 - (i + 1)) p n k) ∙ ap (λ (f : ℕ). topFrom f p n) (sym s) ∙ e
+
+  pub top-end : i < 9 → n / p < 10 → topFrom (9 - i) p n ≡ t → p ≡ t
+  top-end h k e =
+      let s : 9 - i ≡ suc (9 - (i + 1)) = omega arith in
+      sym (top-here (9 - (i + 1)) p n k) ∙ ap (λ (f : ℕ). topFrom f p n) (sym s) ∙ e
+
+  pub top-all : 9 ≤ i → topFrom (9 - i) p n ≡ t → p ≡ t
+  unfolding topFrom
+  top-all h e = let s : 9 - i ≡ 0 = omega arith in ap (λ (f : ℕ). topFrom f p n) (sym s) ∙ e
+
+pub above : (p : ℕ) → (p ≡ 0 → ⊥) → 0 < p
+above p h = omega arith
+
+module _ (b : List ℕ) (k i p n : ℕ) {all : Pen ℕ} (inv : inked sets (pen b k) (digitsFrom (10 - i) p n) ≡ all) where
+  pub digit-turn : i < 10 → 0 < p → (b′ : List ℕ) → b′ ≡ set b k (48 + n / p % 10) → inked sets (pen b′ (k + 1)) (digitsFrom (10 - (i + 1)) (p / 10) n) ≡ all
+  digit-turn h l b′ e =
+      let s : 10 - i ≡ suc (10 - (i + 1)) = omega arith in
+      let r = digitsFrom (10 - (i + 1)) (p / 10) n in
+      ap (λ (x : List ℕ). inked sets (pen x (k + 1)) r) e ∙ ink-more b k (48 + n / p % 10) r
+      ∙ ap (inked sets (pen b k)) (sym (digits-more (10 - (i + 1)) p n l) ∙ ap (λ (f : ℕ). digitsFrom f p n) (sym s)) ∙ inv
+
+  pub digit-stop : i < 10 → p ≡ 0 → pen b k ≡ all
+  digit-stop h z =
+      let s : 10 - i ≡ suc (10 - (i + 1)) = omega arith in
+      sym (ink-none numbers-lie (pen b k)) ∙ ap (inked sets (pen b k)) (sym (digits-none (10 - (i + 1)) p n z) ∙ ap (λ (f : ℕ). digitsFrom f p n) (sym s)) ∙ inv
+
+  pub digit-end : 10 ≤ i → pen b k ≡ all
+  unfolding digitsFrom
+  digit-end h =
+      let s : 10 - i ≡ 0 = omega arith in
+      sym (ink-none numbers-lie (pen b k)) ∙ ap (λ (f : ℕ). inked sets (pen b k) (digitsFrom f p n)) (sym s) ∙ inv
+
+-- numbers after spaces
+module _ (at : ℕ → ℕ) (b : List ℕ) (k i e : ℕ) {all : Pen ℕ} (inv : inked sets (pen b k) (spaced (gather at i (e - i))) ≡ all) where
+  pub space-turn : i < e → (b₁ b₂ : List ℕ) (k₂ x : ℕ) → b₁ ≡ set b k 32 → x ≡ at i → pen b₂ k₂ ≡ inked sets (pen b₁ (k + 1)) (decimal x)
+      → inked sets (pen b₂ k₂) (spaced (gather at (i + 1) (e - (i + 1)))) ≡ all
+  unfolding spaced
+  space-turn h b₁ b₂ k₂ x e₁ ex e₂ =
+      let r = spaced (gather at (i + 1) (e - (i + 1))) in
+      ink-two b₁ (k + 1) (decimal x) r e₂ ∙ ap (λ (y : List ℕ). inked sets (pen y (k + 1)) (decimal x ++ r)) e₁ ∙ ink-more b k 32 (decimal x ++ r)
+      ∙ ap (λ (y : ℕ). inked sets (pen b k) (32 ∷ decimal y ++ r)) ex ∙ ap (λ (l : List ℕ). inked sets (pen b k) (spaced l)) (sym (gather-more at i e h)) ∙ inv
+
+  pub space-end : e ≤ i → pen b k ≡ all
+  unfolding spaced
+  space-end h = sym (ink-none numbers-lie (pen b k)) ∙ ap (λ (l : List ℕ). inked sets (pen b k) (spaced l)) (sym (gather-none at i e h)) ∙ inv
+
+-- a line
+module _ (at : ℕ → ℕ) (b : List ℕ) (k a e : ℕ) where
+  pub line-none : e ≤ a → (b′ : List ℕ) → b′ ≡ set b k 10 → pen b′ (k + 1) ≡ inked sets (pen b k) (lineOf (gather at a (e - a)))
+  unfolding lineOf
+  line-none h b′ q = ap (λ (x : List ℕ). pen x (k + 1)) q ∙ sym (ink-none numbers-lie (pen (set b k 10) (k + 1))) ∙ ink-more b k 10 [] ∙ ap (λ (l : List ℕ). inked sets (pen b k) (lineOf l)) (sym (gather-none at a e h))
+
+  pub line-some : a < e → (x : ℕ) → x ≡ at a → (b₁ b₂ b₃ : List ℕ) (k₁ k₂ : ℕ) → pen b₁ k₁ ≡ inked sets (pen b k) (decimal x)
+      → pen b₂ k₂ ≡ inked sets (pen b₁ k₁) (spaced (gather at (a + 1) (e - (a + 1)))) → b₃ ≡ set b₂ k₂ 10
+      → pen b₃ (k₂ + 1) ≡ inked sets (pen b k) (lineOf (gather at a (e - a)))
+  unfolding lineOf
+  line-some h x ex b₁ b₂ b₃ k₁ k₂ e₁ e₂ e₃ =
+      let s = spaced (gather at (a + 1) (e - (a + 1))) in
+      ap (λ (y : List ℕ). pen y (k₂ + 1)) e₃ ∙ sym (ink-none numbers-lie (pen (set b₂ k₂ 10) (k₂ + 1))) ∙ ink-more b₂ k₂ 10 [] ∙ ink-two b₁ k₁ s (10 ∷ []) e₂ ∙ ink-two b k (decimal x) (s ++ 10 ∷ []) e₁
+      ∙ ap (λ (y : ℕ). inked sets (pen b k) (decimal y ++ (s ++ 10 ∷ []))) ex ∙ ap (λ (l : List ℕ). inked sets (pen b k) (lineOf l)) (sym (gather-more at a e h))
+
+-- the place of a start
+pub start-in : (at : ℕ → ℕ) (a n i d : ℕ) → i < n → at (a + i) ≡ getD (gather at a n) i d
+unfolding gather
+start-in at a zero i d h = absurd (omega arith)
+start-in at a (suc n) zero d h = ap at (add-zero a)
+start-in at a (suc n) (suc i) d h = let e : a + suc i ≡ a + 1 + i = omega arith in rw e (start-in at (a + 1) n i d (omega arith))
+
+pub start-past : (at : ℕ → ℕ) (a n i d : ℕ) → n ≤ i → d ≡ getD (gather at a n) i d
+start-past at a n i d h = sym (List·getD-eq-default (gather at a n) d (omega (arith, length-gather at a n)))
+
+eight : (b b₁ b₂ : List ℕ) → b₁ ≡ sets b 0 (bytesOf 1969644914) → b₂ ≡ sets b₁ 4 (bytesOf 543450483) → pen b₂ 8 ≡ inked sets (pen b 0) (114 ∷ 101 ∷ 102 ∷ 117 ∷ 115 ∷ 101 ∷ 100 ∷ 32 ∷ [])
+unfolding bytesOf inked
+eight b b₁ b₂ e₁ e₂ = rw (e₂, e₁)
+
+-- `refused ` as two words, the number, and a newline
+pub refused-put : (b : List ℕ) (n : ℕ) (b₁ b₂ b₃ b₄ : List ℕ) (k : ℕ) → b₁ ≡ sets b 0 (bytesOf 1969644914) → b₂ ≡ sets b₁ 4 (bytesOf 543450483) → pen b₃ k ≡ inked sets (pen b₂ 8) (decimal n) → b₄ ≡ set b₃ k 10
+    → pen b₄ (k + 1) ≡ inked sets (pen b 0) (refusedText n)
+unfolding bytesOf refusedText lineOf spaced
+refused-put b n b₁ b₂ b₃ b₄ k e₁ e₂ e₃ e₄ =
+    let said : List ℕ = 114 ∷ 101 ∷ 102 ∷ 117 ∷ 115 ∷ 101 ∷ 100 ∷ 32 ∷ [] in
+    let e : pen b₂ 8 ≡ inked sets (pen b 0) said = eight b b₁ b₂ e₁ e₂ in
+    ap (λ (x : List ℕ). pen x (k + 1)) e₄ ∙ sym (ink-none numbers-lie (pen (set b₃ k 10) (k + 1))) ∙ ink-more b₃ k 10 [] ∙ ink-two b₂ 8 (decimal n) (10 ∷ []) e₃ ∙ ink-two b 0 said (decimal n ++ 10 ∷ []) e

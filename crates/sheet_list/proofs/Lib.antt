@@ -1,0 +1,4 @@
+pub mod Inks
+pub mod Lines
+pub mod Unique
+pub mod Cases

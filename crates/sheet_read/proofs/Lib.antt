@@ -1,0 +1,4 @@
+pub mod Loops
+pub mod Calls
+pub mod Unique
+pub mod Back

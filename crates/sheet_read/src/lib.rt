@@ -1,0 +1,205 @@
+// Reading a sheet: whether bytes are one, and its strokes.
+use path::put_number;
+use refusal::MOST_POINTS;
+use refusal::MOST_STROKES;
+use refusal::MOST_VERTICES;
+use refusal::Refusal;
+use refusal::Verdict;
+use sheet::word_at;
+ghost use mathlib.Core.Path.{_≡_};
+ghost use Prim.Native.Nat.{_-_, _≤_};
+ghost use lib.Seq.{sets};
+ghost use Rattle.refusal.specs.Limits.{mostStrokes, mostPoints};
+ghost use Rattle.path.specs.Strokes.{gather};
+ghost use Rattle.mesh.specs.Meshes.{allBelow};
+ghost use Rattle.sheet.specs.Sheets.{wordAt, modeGood, countsGood, placesGood, strictFrom, tableGood, headerGood, isSheet};
+ghost use Rattle.sheet_read.specs.Read.{roomFor, verdictOf, said, left, readLeft};
+
+// What reading a sheet answers: its mode and vertices, and how many points and starts were written; or why none were.
+pub enum SheetRead {
+    Wrote {
+        mode: u32,
+        vertices: u32,
+        points: usize,
+        starts: usize,
+    },
+    Refused(Refusal),
+}
+
+// Whether a mode's number is 1 to 3.
+fn mode_good(mode: u32) -> bool
+    ensures { λ r. ⌜ r ≡ modeGood mode ⌝ }
+{
+    if mode < 1 {
+        return false;
+    }
+    mode <= 3
+}
+
+// Whether vertices, strokes and points are within their limits.
+fn counts_good(vertices: u32, strokes: u32, points: u32) -> bool
+    ensures { λ r. ⌜ r ≡ countsGood vertices strokes points ⌝ }
+{
+    if MOST_VERTICES < vertices as usize {
+        return false;
+    }
+    if MOST_STROKES < strokes as usize {
+        return false;
+    }
+    points as usize <= MOST_POINTS
+}
+
+// Whether starts and numbers begin where they must, and the bytes end with them.
+fn places_good(bytes: &[u8], strokes: usize, points: usize) -> bool
+    requires { ⌜ (strokes ≤ mostStrokes) × (points ≤ mostPoints) ⌝ }
+    ensures { λ r. ⌜ r ≡ placesGood (now (bytes .entry)) strokes points ⌝ }
+{
+    if word_at(bytes, 4) != 24 {
+        return false;
+    }
+    if word_at(bytes, 5) as usize != 24 + 4 * strokes {
+        return false;
+    }
+    bytes.len() == 24 + 4 * strokes + 4 * points
+}
+
+// Whether the header is that of a sheet of these bytes.
+fn header_good(bytes: &[u8]) -> bool
+    ensures { λ r. ⌜ r ≡ headerGood (now (bytes .entry)) ⌝ }
+{
+    let strokes = word_at(bytes, 2);
+    let points = word_at(bytes, 3);
+    if !mode_good(word_at(bytes, 0)) {
+        return false;
+    }
+    if !counts_good(word_at(bytes, 1), strokes, points) {
+        return false;
+    }
+    places_good(bytes, strokes as usize, points as usize)
+}
+
+// Whether the words from a up to e rise strictly above s and stay below n.
+fn strict_from(bytes: &[u8], a: usize, e: usize, s: u32, n: u32) -> bool
+    ensures { λ r. ⌜ r ≡ strictFrom n s (gather (wordAt (now (bytes .entry))) a (e - a)) ⌝ }
+{
+    let mut i = a;
+    let mut prev = s;
+    while i < e {
+        let t = word_at(bytes, i);
+        if t <= prev {
+            return false;
+        }
+        if n <= t {
+            return false;
+        }
+        prev = t;
+        i += 1;
+    }
+    true
+}
+
+// Whether the starts are a table of n points: from 0 on, strictly rising, below n; none exactly if there is no point.
+fn table_good(bytes: &[u8], strokes: usize, n: u32) -> bool
+    requires { ⌜ strokes ≤ mostStrokes ⌝ }
+    ensures { λ r. ⌜ r ≡ tableGood n (gather (wordAt (now (bytes .entry))) 6 strokes) ⌝ }
+{
+    if strokes == 0 {
+        return n == 0;
+    }
+    let s = word_at(bytes, 6);
+    if s != 0 {
+        return false;
+    }
+    if n <= s {
+        return false;
+    }
+    strict_from(bytes, 7, 6 + strokes, s, n)
+}
+
+// Whether the words from a up to e are below n.
+fn words_below(bytes: &[u8], a: usize, e: usize, n: u32) -> bool
+    ensures { λ r. ⌜ r ≡ allBelow n (gather (wordAt (now (bytes .entry))) a (e - a)) ⌝ }
+{
+    let mut i = a;
+    while i < e {
+        if n <= word_at(bytes, i) {
+            return false;
+        }
+        i += 1;
+    }
+    true
+}
+
+// Whether the bytes are a sheet.
+pub fn is_sheet(bytes: &[u8]) -> bool
+    ensures { λ r. ⌜ r ≡ isSheet (now (bytes .entry)) ⌝ }
+{
+    if !header_good(bytes) {
+        return false;
+    }
+    let strokes = word_at(bytes, 2) as usize;
+    let n = word_at(bytes, 3);
+    if !table_good(bytes, strokes, n) {
+        return false;
+    }
+    let a = 6 + strokes;
+    words_below(bytes, a, a + n as usize, word_at(bytes, 1))
+}
+
+// Whether there is room for the strokes and points in the header.
+fn room_for(bytes: &[u8], room: usize, start_room: usize) -> bool
+    ensures { λ r. ⌜ r ≡ roomFor (now (bytes .entry)) room «start_room» ⌝ }
+{
+    if room < word_at(bytes, 3) as usize {
+        return false;
+    }
+    word_at(bytes, 2) as usize <= start_room
+}
+
+// The tests before the call's work: bytes that are no sheet come before missing room. Nothing lent is touched.
+fn verdict(bytes: &[u8], room: usize, start_room: usize) -> Verdict
+    ensures { λ r. ⌜ r ≡ verdictOf (now (bytes .entry)) room «start_room» ⌝ }
+{
+    if !is_sheet(bytes) {
+        return Verdict::Refused(Refusal::Sheet);
+    }
+    if !room_for(bytes, room, start_room) {
+        return Verdict::Refused(Refusal::Room);
+    }
+    Verdict::Accepted
+}
+
+// Stores the n words from word a on.
+fn copy_words(bytes: &[u8], a: usize, n: usize, out: &mut [u32])
+    requires { ⌜ (a ≤ mostPoints) × (n ≤ mostPoints) ⌝ }
+    ensures { λ _. ⌜ now (out .exit) ≡ sets (now (out .entry)) 0 (gather (wordAt (now (bytes .entry))) a n) ⌝ }
+{
+    let mut i: usize = 0;
+    while i < n {
+        put_number(out, i, word_at(bytes, a + i));
+        i += 1;
+    }
+}
+
+// Reads a sheet into lent lists: its vertex numbers and its starts.
+pub fn read_sheet(bytes: &[u8], out_numbers: &mut [u32], out_starts: &mut [u32]) -> SheetRead
+    ensures { λ r. ⌜ left (said r) (now («out_numbers» .exit)) (now («out_starts» .exit))
+        ≡ readLeft (now (bytes .entry)) (now («out_numbers» .entry)) (now («out_starts» .entry)) ⌝ }
+{
+    let v = verdict(bytes, out_numbers.len(), out_starts.len());
+    match v {
+        Verdict::Refused(r) => SheetRead::Refused(r),
+        Verdict::Accepted => {
+            let strokes = word_at(bytes, 2) as usize;
+            let points = word_at(bytes, 3) as usize;
+            copy_words(bytes, 6, strokes, out_starts);
+            copy_words(bytes, 6 + strokes, points, out_numbers);
+            SheetRead::Wrote {
+                mode: word_at(bytes, 0),
+                vertices: word_at(bytes, 1),
+                points: points,
+                starts: strokes,
+            }
+        }
+    }
+}

@@ -1,0 +1,6 @@
+pub mod Kepts
+pub mod Modes
+pub mod Calls
+pub mod Unique
+pub mod Written
+pub mod Cases

@@ -1,0 +1,56 @@
+-- The number that is stored of a mode number. Assumes nothing.
+use mathlib.Core.Path.{_≡_, refl, sym, ap, _∙_}
+use mathlib.Core.Bool.{true}
+use Prim.Native.Nat.{ℕ, zero, suc, _+_, _≤_}
+use native.Mathlib.Omega.{arith}
+use lib.Dec.{ltb}
+use borrow.Author.Tests.{lt-ltb}
+use lib.Ieee.{Float, ofBits, eq}
+use Rattle.refusal.specs.Said.{Said}
+use Rattle.refusal.specs.declared.Refusal.{Refusal}
+use Rattle.vector.specs.Lengths.{zero64}
+use Rattle.mesh_mode.specs.declared.Mode.{Mode}
+use Rattle.mesh_mode.specs.declared.Moded.{Moded}
+use Rattle.mesh_mode.specs.declared.Moded.the-variants.{Of, Refused}
+use Rattle.mesh_mode.specs.Modes.{modeBy, modeOf, modeSaid, modeNumber}
+use Rattle.sheet_write.specs.Write.{numberIn, modeWord}
+
+-- 0.0 is a number
+mode-plain : (n : ℕ) → modeOf n zero64 ≡ modeBy n zero64
+unfolding modeOf ofBits eq
+mode-plain n = refl
+
+-- what is said of an answer gives the word
+module _ (n : ℕ) (r : Moded) (h : modeSaid r ≡ modeOf n zero64) where
+  pub some-mode : (m : Mode) → r ≡ Of m → modeNumber m ≡ modeWord n
+  unfolding modeWord
+  some-mode m e = ap (λ (s : Said Mode). numberIn (s .values)) (ap modeSaid (sym e) ∙ h ∙ mode-plain n)
+
+  pub no-mode : (t : Refusal) → r ≡ Refused t → 0 ≡ modeWord n
+  unfolding modeWord
+  no-mode t e = ap (λ (s : Said Mode). numberIn (s .values)) (ap modeSaid (sym e) ∙ h ∙ mode-plain n)
+
+-- 0 is stored as the number of triangles; a mode's number is stored as it is; above 3 there is none
+pub words : (modeWord 0 ≡ 1) × (modeWord 1 ≡ 1) × (modeWord 2 ≡ 2) × (modeWord 3 ≡ 3)
+unfolding modeWord
+words = (refl, refl, refl, refl)
+
+pub word-none : (n : ℕ) → 4 ≤ n → modeWord n ≡ 0
+unfolding modeWord
+word-none zero h = absurd (omega arith)
+word-none (suc zero) h = absurd (omega arith)
+word-none (suc (suc zero)) h = absurd (omega arith)
+word-none (suc (suc (suc zero))) h = absurd (omega arith)
+word-none (suc (suc (suc (suc n)))) h = refl
+
+pub word-most : (n : ℕ) → modeWord n ≤ 3
+unfolding modeWord
+word-most zero = omega arith
+word-most (suc zero) = omega arith
+word-most (suc (suc zero)) = omega arith
+word-most (suc (suc (suc zero))) = omega arith
+word-most (suc (suc (suc (suc n)))) = omega arith
+
+-- a word that is there
+pub word-some : (r w : ℕ) → r ≡ w → (r ≡ 0 → ⊥) → ltb 0 w ≡ true
+word-some r w e h = lt-ltb 0 w (omega arith)

@@ -1,0 +1,67 @@
+-- What an accepted call writes is a sheet, from which mode, vertices and the strokes that have points are read back. Assumes nothing.
+use mathlib.Core.Path.{_≡_, sym, ap, _∙_}
+use mathlib.Core.Bool.{true, _&&_}
+use mathlib.Core.List.{List}
+use Prim.Native.Nat.{ℕ, _≤_}
+use native.Mathlib.Omega.{arith}
+use lib.ListN.{length}
+use lib.Dec.{leb, ltb}
+use borrow.Author.Tests.{leb-true, ltb-true, le-leb}
+use Rattle.refusal.specs.Limits.{mostVertices, mostStrokes, mostPoints}
+use Rattle.refusal.specs.declared.Verdict.the-variants.{Accepted}
+use Rattle.path.specs.Strokes.{numberAt}
+use Rattle.path.specs.Tests.{countedOf}
+use Rattle.path.specs.Laid.{nonEmpty, joined, startsFrom}
+use Rattle.path.proofs.Tests.{passed, both}
+use Rattle.path.proofs.Pushes.{no-more-kept}
+use Rattle.mesh.specs.Meshes.{allBelow}
+use Rattle.sheet.specs.Sheets.{strokesIn, sheetOf, modeGood, countsGood, startsIn, numbersIn}
+use Rattle.sheet.proofs.Tables.{joined-all, strokes-count}
+use Rattle.sheet.proofs.Back.{Readable, sheet-back, read-back}
+use Rattle.sheet_write.specs.Write.{modeWord, countsGood as writtenGood, verdictOf}
+use Rattle.sheet_write.proofs.Calls.{granted}
+use Rattle.sheet_write.proofs.Modes.{word-most}
+
+module _ (mode vertices : ℕ) (ns ss : List ℕ) (room : ℕ) (h : verdictOf mode vertices ns ss room ≡ Accepted) where
+  abbrev All : List (List ℕ)
+  All = strokesIn ns ss
+
+  few-vertices : vertices ≤ mostVertices
+  unfolding verdictOf writtenGood
+  few-vertices =
+      let shape = passed _ _ _ h in
+      let count = passed _ _ _ (shape .1) in
+      leb-true vertices mostVertices (both (countedOf (length ns) (length ss)) (leb vertices mostVertices) (count .0) .1)
+
+  all-below : allBelow vertices (joined All) ≡ true
+  unfolding verdictOf
+  all-below =
+      let shape = passed _ _ _ h in
+      let count = passed _ _ _ (shape .1) in
+      rw (joined-all ns ss (shape .0)) (passed _ _ _ (count .1) .0)
+
+  mode-good : modeGood (modeWord mode) ≡ true
+  unfolding verdictOf modeGood
+  mode-good =
+      let shape = passed _ _ _ h in
+      let count = passed _ _ _ (shape .1) in
+      let vertex = passed _ _ _ (count .1) in
+      let l = ltb-true 0 (modeWord mode) (passed _ _ _ (vertex .1) .0) in
+      rw (le-leb 1 (modeWord mode) (omega arith), le-leb (modeWord mode) 3 (word-most mode))
+
+  counts-good : countsGood vertices (length (nonEmpty All)) (length (joined All)) ≡ true
+  unfolding countsGood
+  counts-good =
+      let g = granted mode vertices ns ss room h in
+      let k = no-more-kept All in
+      let s = strokes-count (numberAt ns) (length ns) ss in
+      let e = ap length (joined-all ns ss (g .table)) in
+      let a = g .strokes in
+      let b = g .points in
+      rw (le-leb vertices mostVertices few-vertices, le-leb (length (nonEmpty All)) mostStrokes (omega arith), le-leb (length (joined All)) mostPoints (omega arith))
+
+  pub written-back : Readable (modeWord mode) vertices (startsFrom 0 (nonEmpty All)) (joined All) (sheetOf (modeWord mode) vertices All)
+  written-back = sheet-back (modeWord mode) vertices All mode-good counts-good all-below
+
+  pub written-strokes : strokesIn (numbersIn (sheetOf (modeWord mode) vertices All)) (startsIn (sheetOf (modeWord mode) vertices All)) ≡ nonEmpty All
+  written-strokes = read-back (modeWord mode) vertices All mode-good counts-good all-below

@@ -1,0 +1,76 @@
+-- `write_all` meets its contract.
+use mathlib.Core.Path.{_≡_, sym, ap, _∙_}
+use Prim.Native.Nat.{ℕ, _+_, _*_}
+use native.Mathlib.Omega.{arith}
+use lib.ListN.{length}
+use lib.Seq.{sets}
+use Rattle.sheet.specs.Sheets.{bytesAll, headerOf, sizeOf}
+use Rattle.sheet.specs.Kept.{keptFrom}
+use Rattle.sheet_write.specs.Write.{modeWord}
+use Rattle.sheet_write.proofs.Calls.{all-put}
+use borrow.Author.Needs.{needs}
+use Rattle.sheet_write.proofs.write_all.Statement.{statement}
+use Rattle.sheet_write.proofs.write_all.Tie as tie
+
+kept-requires : tie.Need-kept-requires
+kept-requires c κs = search needs
+
+mode-word-requires : tie.Need-mode-word-requires
+mode-word-requires c κs = search needs
+
+cast-write-header : tie.Need-cast-write-header
+cast-write-header c = search needs
+
+cast-write-header-2 : tie.Need-cast-write-header-2
+cast-write-header-2 c = search needs
+
+write-header-requires : tie.Need-write-header-requires
+write-header-requires c κs = search needs
+
+write-starts-requires : tie.Need-write-starts-requires
+write-starts-requires c κs = search needs
+
+write-numbers-requires : tie.Need-write-numbers-requires
+write-numbers-requires c κs = search needs
+
+mul-result : tie.Need-mul-result
+mul-result c = search needs
+
+add-result : tie.Need-add-result
+add-result c = search needs
+
+mul-result-2 : tie.Need-mul-result-2
+mul-result-2 c = search needs
+
+add-result-2 : tie.Need-add-result-2
+add-result-2 c = search needs
+
+same-length : tie.Need-same-length
+same-length c = search needs
+
+returns : tie.Need-returns
+returns c =
+    let a = c .before .before .before .before .before .before .before .before .before .before .before .before .before .before .before .before .before .args in
+    let s = c .before .before .before .before .before .before .before .before .before .before .before .before .before .kept .ensures .0 in
+    let w = c .before .before .before .before .before .before .write-starts .ensures in
+    let n = length (a .numbers .now) in
+    let h = c .before .before .before .before .before .before .before .before .before .before .write-header .ensures ∙ ap (λ (x : ℕ). sets (a .out .now) 0 (bytesAll (headerOf x (a .vertices) (c .before .before .before .before .before .before .before .before .before .before .before .before .before .kept .result) n))) (c .before .before .before .before .before .before .before .before .before .before .before .mode-word .ensures) ∙ ap (λ (x : ℕ). sets (a .out .now) 0 (bytesAll (headerOf (modeWord (a .mode)) (a .vertices) x n))) s in
+    (all-put (a .out .now) (modeWord (a .mode)) (a .vertices) (keptFrom n (a .starts .now)) (a .numbers .now) _ _ _ _ h (w .0) (w .1 .0) (c .before .before .write-numbers .ensures), ap (λ (x : ℕ). sizeOf x n) s)
+
+pub write-all-spec : {M : Type 1} → statement M
+write-all-spec =
+    tie.close
+    (tie.spec
+    kept-requires
+    mode-word-requires
+    cast-write-header
+    cast-write-header-2
+    write-header-requires
+    write-starts-requires
+    write-numbers-requires
+    mul-result
+    add-result
+    mul-result-2
+    add-result-2
+    same-length
+    returns)

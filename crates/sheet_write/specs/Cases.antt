@@ -1,0 +1,33 @@
+-- The paper's proved case of a sheet, as bytes.
+use mathlib.Core.Path.{_≡_}
+use mathlib.Core.List.{List, [], _∷_}
+use Prim.Native.Nat.{ℕ}
+use lib.ListN.{length, replicate}
+use Rattle.refusal.specs.Said.{accepted}
+use Rattle.sheet_write.specs.Write.{left, writeLeft}
+
+-- mode, vertices, numbers and starts, and the bytes that there are to be
+pub data Case : Type 0 where
+  writes : ℕ → ℕ → List ℕ → List ℕ → List ℕ → Case
+
+-- into room of just so many bytes
+abbrev pub Holds : Case → Type 0
+Holds (writes mode vertices ns ss bytes) = writeLeft mode vertices ns ss (replicate (length bytes) 9) ≡ left (accepted (length bytes ∷ [])) bytes
+
+abbrev pub Each : List Case → Type 0
+Each [] = Unit {0}
+Each (c ∷ cs) = Holds c × Each cs
+
+-- the header 1, 3, 1, 4, 24, 28; the start 0; and 1 0 2 1
+abbrev pub drawn : List ℕ
+drawn =
+    1 ∷ 0 ∷ 0 ∷ 0 ∷ 3 ∷ 0 ∷ 0 ∷ 0 ∷ 1 ∷ 0 ∷ 0 ∷ 0 ∷ 4 ∷ 0 ∷ 0 ∷ 0 ∷ 24 ∷ 0 ∷ 0 ∷ 0 ∷ 28 ∷ 0 ∷ 0 ∷ 0
+    ∷ 0 ∷ 0 ∷ 0 ∷ 0 ∷ 1 ∷ 0 ∷ 0 ∷ 0 ∷ 0 ∷ 0 ∷ 0 ∷ 0 ∷ 2 ∷ 0 ∷ 0 ∷ 0 ∷ 1 ∷ 0 ∷ 0 ∷ 0 ∷ []
+
+-- face 0 1 2 in triangles is [1,0,2,1], by the mode's number and by 0, and with empty strokes about it
+unfoldable pub paper : List Case
+paper =
+    writes 1 3 (1 ∷ 0 ∷ 2 ∷ 1 ∷ []) (0 ∷ []) drawn
+    ∷ writes 0 3 (1 ∷ 0 ∷ 2 ∷ 1 ∷ []) (0 ∷ []) drawn
+    ∷ writes 1 3 (1 ∷ 0 ∷ 2 ∷ 1 ∷ []) (0 ∷ 0 ∷ 4 ∷ []) drawn
+    ∷ []
