@@ -5,6 +5,7 @@ pub mod Patterns
 pub mod RootSearch
 pub mod RootNearest
 pub mod RootLaws
+pub mod RootGap
 pub mod Abs
 pub mod Segments
 pub mod Cases
