@@ -12,7 +12,7 @@ use refusal::Refusal;
 use refusal::Verdict;
 use vector::Vector;
 use vector::number::root_above;
-use vector::number::root_or_nan;
+use vector::number::root_exceeds;
 ghost use mathlib.Core.Path.{_≡_};
 ghost use Prim.Native.Nat.{_+_, _-_, _/_, _≤_, _<_};
 ghost use lib.ListN.{length};
@@ -93,10 +93,10 @@ fn farther(best: Best, i: usize, p: Vector, a: Vector, b: Vector) -> Best
     best
 }
 
-// The first farthest of the points between lo and hi from the segment between those two. Its root is the only one.
-fn find_far(points: &[f64], lo: usize, hi: usize) -> Far
+// The first farthest of the points between lo and hi from the segment between those two.
+fn find_far(points: &[f64], lo: usize, hi: usize) -> Best
     requires { ⌜ lo < hi ⌝ }
-    ensures { λ r. ⌜ r ≡ farthest (pointAt (now (points .entry))) lo hi ⌝ }
+    ensures { λ r. ⌜ farOf r ≡ farthest (pointAt (now (points .entry))) lo hi ⌝ }
 {
     let a = point_at(points, lo);
     let b = point_at(points, hi);
@@ -109,18 +109,15 @@ fn find_far(points: &[f64], lo: usize, hi: usize) -> Far
         best = farther(best, i, point_at(points, i), a, b);
         i += 1;
     }
-    Far {
-        at: best.at,
-        far: root_or_nan(best.square),
-    }
+    best
 }
 
-// Whether the farthest splits the points from lo on: strictly above the threshold.
-fn splits(f: Far, lo: usize, threshold: f64) -> bool
-    ensures { λ r. ⌜ r ≡ splitsAt f lo threshold ⌝ }
+// Whether the farthest splits the points from lo on: its distance, the root, strictly above the threshold.
+fn splits(f: Best, lo: usize, threshold: f64) -> bool
+    ensures { λ r. ⌜ r ≡ splitsAt (farOf f) lo threshold ⌝ }
 {
     let m = f.at;
-    if f.far > threshold {
+    if root_exceeds(f.square, threshold) {
         return lo < m;
     }
     false

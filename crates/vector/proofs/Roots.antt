@@ -106,7 +106,7 @@ pub at-low : (b : ℕ) → b / 2 ^ 52 ≤ 0 → at b ≡ b % 2 ^ 52
 unfolding at
 at-low b h = let z : b / 2 ^ 52 ≡ 0 = omega arith in rw z
 
-at-high : (b x : ℕ) → b / 2 ^ 52 ≡ suc x → at b ≡ (2 ^ 52 + b % 2 ^ 52) * 2 ^ x
+pub at-high : (b x : ℕ) → b / 2 ^ 52 ≡ suc x → at b ≡ (2 ^ 52 + b % 2 ^ 52) * 2 ^ x
 unfolding at
 at-high b x h = rw h
 
@@ -156,7 +156,7 @@ pub risen : {n d e : ℕ} → Rising n d e → 2 ^ 52 ≤ d → Normal n d e
 risen r h = record { least = h; most = r .most; low = r .low; high = omega (arith, r .high); same = r .same }
 
 -- ---- the numbers of at most 53 digits with zeros behind, about one that has a leading digit
-dn : (m j c k : ℕ) → m < 2 ^ 53 → 2 ^ 52 ≤ c → m * 2 ^ j < (c + 1) * 2 ^ k → m * 2 ^ j ≤ c * 2 ^ k
+pub dn : (m j c k : ℕ) → m < 2 ^ 53 → 2 ^ 52 ≤ c → m * 2 ^ j < (c + 1) * 2 ^ k → m * 2 ^ j ≤ c * 2 ^ k
 dn m j c k h l t = ⊎-elim far near (lt-or-ge j k)
   where
     -- j < k: below 2 ^ 53 * 2 ^ (k - 1)
@@ -171,12 +171,12 @@ dn m j c k h l t = ⊎-elim far near (lt-or-ge j k)
         let u : m * 2 ^ (j - k) < c + 1 = lt-of-mul-lt-mul-right (2 ^ k) (subst (λ (z : ℕ). z < (c + 1) * 2 ^ k) e t) in
         le-trans (le-of-eq e) (mul-le-mul-right (2 ^ k) (omega arith))
 
-up : (m j c k : ℕ) → m < 2 ^ 53 → 2 ^ 52 ≤ c → c * 2 ^ k < m * 2 ^ j → (c + 1) * 2 ^ k ≤ m * 2 ^ j
+pub up : (m j c k : ℕ) → m < 2 ^ 53 → 2 ^ 52 ≤ c → c * 2 ^ k < m * 2 ^ j → (c + 1) * 2 ^ k ≤ m * 2 ^ j
 up m j c k h l t = ⊎-elim (λ g. absurd (not-le-of-lt t (dn m j c k h l g))) (λ g. g) (lt-or-ge (m * 2 ^ j) ((c + 1) * 2 ^ k))
 
 -- ---- the rounded root
 
-sq-lt : (a b : ℕ) → a < b → a * a < b * b
+pub sq-lt : (a b : ℕ) → a < b → a * a < b * b
 sq-lt a b h = lt-of-le-of-lt (mul-le-mul-left a (le-of-lt h)) (mul-lt-mul-of-pos-right h (omega arith))
 
 odd-square : (a b : ℕ) → (2 * a + 1) * (2 * a + 1) ≡ 2 * b → ⊥

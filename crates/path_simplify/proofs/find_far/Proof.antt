@@ -50,16 +50,13 @@ loop-again c =
     let d = ap (λ (x : Vector). segmentDistanceOf x (l .before .before .point-at .result) (l .before .point-at2 .result)) (c .before .point-at3 .ensures) in
     (omega arith, far-turn (pointAt (a .points .now)) _ _ (farOf (l .loop .best)) (l .loop .i) (a .hi) (search needs) _ d (c .farther .ensures) ∙ l .loop .inv .1)
 
-root-or-nan-requires : tie.Need-root-or-nan-requires Inv-loop μ-loop
-root-or-nan-requires c κs = search needs
-
 returns : tie.Need-returns Inv-loop μ-loop
 unfolding farthest
 returns c =
-    let l = c .before .before in
+    let l = c .before in
     let a = l .before .before .before .before .args in
-    rw (c .root-or-nan .ensures) (sym (far-end (pointAt (a .points .now)) _ _ (farOf (l .loop .best)) (l .loop .i) (a .hi) (search needs)) ∙ l .loop .inv .1
-    ∙ rw (l .before .before .point-at .ensures, l .before .point-at2 .ensures))
+    sym (far-end (pointAt (a .points .now)) _ _ (farOf (l .loop .best)) (l .loop .i) (a .hi) (search needs)) ∙ l .loop .inv .1
+    ∙ rw (l .before .before .point-at .ensures, l .before .point-at2 .ensures)
 
 pub find-far-spec : {M : Type 1} → statement M
 find-far-spec =
@@ -76,5 +73,4 @@ find-far-spec =
     add-i-2
     loop-less
     loop-again
-    root-or-nan-requires
     returns)
