@@ -12,11 +12,14 @@ use refusal::MOST_POINTS;
 use refusal::Refusal;
 use refusal::Verdict;
 use vector::Vector;
+use vector::number::root_exceeds;
 ghost use mathlib.Core.Path.{_≡_};
 ghost use mathlib.Core.List.{map};
 ghost use Prim.Native.Nat.{_+_, _-_, _/_, _≤_, _<_};
 ghost use lib.ListN.{length};
 ghost use Rattle.refusal.specs.Limits.{mostPoints};
+ghost use Rattle.vector.specs.Root.{rootOf};
+ghost use Rattle.vector.specs.Lengths.{orNan, lengthOf};
 ghost use Rattle.path.specs.Strokes.{pointAt, gather, strokesOf};
 ghost use Rattle.path.specs.Laid.{putPoints, pen, inked, out, push, pushAll, joined, nonEmpty};
 ghost use Rattle.path.specs.Left.{left};
@@ -32,14 +35,14 @@ pub enum Chopped {
 // No more points than these are looked at in one span.
 const TOO_MANY: usize = MOST_POINTS + 1;
 
-// How many points lie within a span of length l. d is a running sum, as the source's.
-fn count_steps(l: f64, step: f64) -> usize
-    ensures { λ r. ⌜ (r ≡ length (stepsOf tooMany l step step)) × (r ≤ tooMany) ⌝ }
+// How many points lie within a span whose squared length is s: its root is not worked out. d is a running sum, as the source's.
+fn count_steps(s: f64, step: f64) -> usize
+    ensures { λ r. ⌜ (r ≡ length (stepsOf tooMany (orNan (rootOf s)) step step)) × (r ≤ tooMany) ⌝ }
 {
     let mut n = 0;
     let mut d = step;
     while n < TOO_MANY {
-        if d < l {
+        if root_exceeds(s, d) {
             n += 1;
             d = d + step;
         } else {
@@ -70,14 +73,24 @@ fn write_steps(a: Vector, v: Vector, l: f64, step: f64, out: &mut [f64], at: usi
     o
 }
 
+// Writes the points within a span along v from a. Where no step fits, its length is not worked out.
+fn write_cuts(a: Vector, v: Vector, step: f64, out: &mut [f64], at: usize) -> usize
+    requires { ⌜ at + length (stepsOf tooMany (lengthOf v) step step) ≤ mostPoints ⌝ }
+    ensures { λ r. ⌜ pen (now (out .exit)) r ≡ inked putPoints (pen (now (out .entry)) at) (map (along a v (lengthOf v)) (stepsOf tooMany (lengthOf v) step step)) ⌝ }
+{
+    if !root_exceeds(v.length_squared(), step) {
+        return at;
+    }
+    write_steps(a, v, v.length(), step, out, at)
+}
+
 // Writes what the span from a to b gives after a.
 fn write_span(a: Vector, b: Vector, step: f64, out: &mut [f64], at: usize) -> usize
     requires { ⌜ at + length (span step a b) ≤ mostPoints ⌝ }
     ensures { λ r. ⌜ pen (now (out .exit)) r ≡ inked putPoints (pen (now (out .entry)) at) (span step a b) ⌝ }
 {
     let v = b.sub(a);
-    let l = v.length();
-    let o = write_steps(a, v, l, step, out, at);
+    let o = write_cuts(a, v, step, out, at);
     put_point(out, o, b);
     o + 1
 }
@@ -205,7 +218,7 @@ fn count_spans(points: &[f64], i: usize, e: usize, first: Vector, step: f64, so_
             return TOO_MANY;
         }
         let q = point_at(points, j);
-        n = n + count_steps(q.sub(p).length(), step) + 1;
+        n = n + count_steps(q.sub(p).length_squared(), step) + 1;
         p = q;
         j += 1;
     }

@@ -1,8 +1,6 @@
 -- The scan without roots: a distance is the root of a square, and roots keep the order.
-use mathlib.Core.Path.{_≡_}
 use mathlib.Core.Bool.{cond}
-use lib.Dec.{T}
-use lib.Ieee.{Float, binary64, eq, lt, fits}
+use lib.Ieee.{Float, binary64, eq, lt}
 use Rattle.vector.specs.declared.Vector.{Vector}
 use Rattle.vector.specs.Vectors.{addOf, subOf, mulScalarOf, distanceSquaredOf}
 use Rattle.vector.specs.Lengths.{zero64, one64, orNan, alongOf}
@@ -18,11 +16,6 @@ segmentSquareOf p v w =
     (cond (lt one64 (alongOf p v w)) (distanceSquaredOf p w)
     (distanceSquaredOf (addOf v (mulScalarOf (subOf w v) (alongOf p v w))) p)))
 
--- the farthest so far, as the definition has it
+-- the farthest so far, as the definition has it: its distance is the root of its square
 abbrev pub farOf : Best → Far
-farOf b = record { at = b .at; far = b .far }
-
--- its distance is the root of its square
-pub record Rooted (b : Best) : Type 0 where
-  pub format : T (fits binary64 (b .square))
-  pub root : b .far ≡ orNan (rootOf (b .square))
+farOf b = record { at = b .at; far = orNan (rootOf (b .square)) }

@@ -11,6 +11,8 @@ use refusal::MOST_TO_SIMPLIFY;
 use refusal::Refusal;
 use refusal::Verdict;
 use vector::Vector;
+use vector::number::root_above;
+use vector::number::root_exceeds;
 ghost use mathlib.Core.Path.{_≡_};
 ghost use Prim.Native.Nat.{_+_, _-_, _/_, _≤_, _<_};
 ghost use lib.ListN.{length};
@@ -21,7 +23,7 @@ ghost use Rattle.path.specs.Laid.{putPoints, pen, inked, out, push, pushAll, jo
 ghost use Rattle.path.specs.Left.{left};
 ghost use Rattle.path_simplify.specs.Simplify.{fartherOf, farthest, splitsAt, thin, thinned, simplified, distances, simplifiedOf, placeOf};
 ghost use Rattle.vector.specs.Lengths.{segmentDistanceOf};
-ghost use Rattle.path_simplify.specs.Squares.{segmentSquareOf, farOf, Rooted};
+ghost use Rattle.path_simplify.specs.Squares.{segmentSquareOf, farOf};
 ghost use Rattle.path_simplify.specs.Call.{said, shortOf, roomFor, thresholdGood, simplifyVerdict, simplifyLeft};
 
 // What simplify wrote and how many distances it measured, or why it was refused.
@@ -53,10 +55,9 @@ pub struct Progress {
     pub distances: usize,
 }
 
-// The farthest point of a scan so far, with the square of its distance.
+// The farthest point of a scan so far: its place, and the square of how far it is.
 pub struct Best {
     pub at: usize,
-    pub far: f64,
     pub square: f64,
 }
 
@@ -78,20 +79,14 @@ fn segment_square(p: Vector, v: Vector, w: Vector) -> f64
     v.add(w.sub(v).mul_scalar(t)).distance_squared(p)
 }
 
-// The farther of two, the first where they are level. No root is worked out where the square is not above.
+// The farther of two, the first where they are level. Squares are compared as their roots would be.
 fn farther(best: Best, i: usize, p: Vector, a: Vector, b: Vector) -> Best
-    requires { ⌜ Rooted best ⌝ }
-    ensures { λ r. ⌜ (farOf r ≡ fartherOf (farOf best) i (segmentDistanceOf p a b)) × Rooted r ⌝ }
+    ensures { λ r. ⌜ farOf r ≡ fartherOf (farOf best) i (segmentDistanceOf p a b) ⌝ }
 {
     let square = segment_square(p, a, b);
-    if !(square > best.square) {
-        return best;
-    }
-    let d = p.segment_distance(a, b);
-    if d > best.far {
+    if root_above(square, best.square) {
         return Best {
             at: i,
-            far: d,
             square: square,
         };
     }
@@ -99,15 +94,14 @@ fn farther(best: Best, i: usize, p: Vector, a: Vector, b: Vector) -> Best
 }
 
 // The first farthest of the points between lo and hi from the segment between those two.
-fn find_far(points: &[f64], lo: usize, hi: usize) -> Far
+fn find_far(points: &[f64], lo: usize, hi: usize) -> Best
     requires { ⌜ lo < hi ⌝ }
-    ensures { λ r. ⌜ r ≡ farthest (pointAt (now (points .entry))) lo hi ⌝ }
+    ensures { λ r. ⌜ farOf r ≡ farthest (pointAt (now (points .entry))) lo hi ⌝ }
 {
     let a = point_at(points, lo);
     let b = point_at(points, hi);
     let mut best = Best {
         at: lo,
-        far: 0.0,
         square: 0.0,
     };
     let mut i = lo + 1;
@@ -115,18 +109,15 @@ fn find_far(points: &[f64], lo: usize, hi: usize) -> Far
         best = farther(best, i, point_at(points, i), a, b);
         i += 1;
     }
-    Far {
-        at: best.at,
-        far: best.far,
-    }
+    best
 }
 
-// Whether the farthest splits the points from lo on: strictly above the threshold.
-fn splits(f: Far, lo: usize, threshold: f64) -> bool
-    ensures { λ r. ⌜ r ≡ splitsAt f lo threshold ⌝ }
+// Whether the farthest splits the points from lo on: its distance, the root, strictly above the threshold.
+fn splits(f: Best, lo: usize, threshold: f64) -> bool
+    ensures { λ r. ⌜ r ≡ splitsAt (farOf f) lo threshold ⌝ }
 {
     let m = f.at;
-    if f.far > threshold {
+    if root_exceeds(f.square, threshold) {
         return lo < m;
     }
     false

@@ -5,6 +5,8 @@ pub mod Patterns
 pub mod RootSearch
 pub mod RootNearest
 pub mod RootLaws
+pub mod RootGap
+pub mod RootSquare
 pub mod Abs
 pub mod Segments
 pub mod Cases

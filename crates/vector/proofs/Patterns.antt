@@ -19,7 +19,7 @@ use Rattle.vector.specs.Steps.{at, unitsAt, NearestUnits}
 use Rattle.vector.proofs.Roots.{shift-to, lt-or-ge}
 
 -- ---- units
-units-val : (x : Float) (a : ℕ) → HasValue x false a (2 ^ 1074) → unitsOf x ≡ a
+pub units-val : (x : Float) (a : ℕ) → HasValue x false a (2 ^ 1074) → unitsOf x ≡ a
 unfolding unitsOf
 units-val nan a h = absurd h
 units-val (inf s) a h = absurd h

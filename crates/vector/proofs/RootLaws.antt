@@ -56,7 +56,7 @@ bits-mono n k h l t = ⊎-elim (λ g. absurd (f .1 (under-down k (rootBits k + 1
     more : T (under n (rootBits n)) → T (under k (rootBits n))
     more u = lt→ltb (mid (rootBits n) * mid (rootBits n)) (k * 2 ^ 1076) (lt-of-lt-of-le (ltb→lt (mid (rootBits n) * mid (rootBits n)) (n * 2 ^ 1076) u) (mul-le-mul-right (2 ^ 1076) l))
 
-zero-below : (s : Bool) (n : ℕ) (e d : ℤ) → lt (fin s 0 e) (fin false (suc n) d) ≡ false → ⊥
+pub zero-below : (s : Bool) (n : ℕ) (e d : ℤ) → lt (fin s 0 e) (fin false (suc n) d) ≡ false → ⊥
 unfolding lt
 zero-below true n e d p = absurd (subst T p (lt→ltb 0 (0 * up e * down d + suc n * up d * down e) (omega (arith, mul-pos (mul-pos (zero-lt-suc n) (up-pos d)) (down-pos e)))))
 zero-below false n e d p =
@@ -74,11 +74,11 @@ module _ (m : ℕ) (e : ℤ) (h : T (fits binary64 (fin false (suc m) e))) where
       (r .1 .0)
 
   -- the value of the root
-  value : HasValue (rooted (fin false (suc m) e)) false (at (rootBits (unitsOf (fin false (suc m) e)))) (2 ^ 1074)
+  pub value : HasValue (rooted (fin false (suc m) e)) false (at (rootBits (unitsOf (fin false (suc m) e)))) (2 ^ 1074)
   unfolding rootOf
   value = of-bits (rootBits (unitsOf (fin false (suc m) e))) pattern-lt
 
-  value-pos : 0 < at (rootBits (unitsOf (fin false (suc m) e)))
+  pub value-pos : 0 < at (rootBits (unitsOf (fin false (suc m) e)))
   unfolding unitsOf
   value-pos = let o : 0 < at 1 = unfold at in lit< tt in lt-of-lt-of-le o (at-mono 1 (rootBits (suc m * up e * 2 ^ 1074 / down e)) (one-up (suc m * up e * 2 ^ 1074 / down e) (units-pos m e h) (units-lt m e h)))
 
@@ -116,7 +116,7 @@ never-nan nan = refl
 never-nan (inf s) = refl
 never-nan (fin s m e) = refl
 
-never-above : (y : Float) → lt (inf false) y ≡ false
+pub never-above : (y : Float) → lt (inf false) y ≡ false
 unfolding lt
 never-above nan = refl
 never-above (inf t) = refl

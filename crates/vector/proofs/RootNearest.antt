@@ -20,7 +20,7 @@ use Rattle.vector.proofs.Patterns.{Above, above, nearest, in-patterns}
 use Rattle.vector.proofs.RootSearch.{search-is, worked, root}
 
 -- ---- there is a nearest one
-digits-of : (D : ℕ) → D < 2 ^ 108 → (s : ℕ) × (s < 2 ^ 54) × Digits D s
+pub digits-of : (D : ℕ) → D < 2 ^ 108 → (s : ℕ) × (s < 2 ^ 54) × Digits D s
 digits-of D h =
     let p : ℕ → Bool = λ s. leb (s * s) D in
     let s = greatest p 54 0 in
@@ -54,7 +54,7 @@ small-normal n h l =
     none : (k : ℕ) → k ≤ 0 → n < 2 ^ k → ⊥
     none k g t = let e : k ≡ 0 = omega arith in not-le-of-lt (subst (λ (j : ℕ). n < 2 ^ j) e t) h
 
-normal-of : (b : ℕ) → 0 < b → b < 2047 * 2 ^ 52 → (d : ℕ) × (e : ℕ) × Normal (at b) d e
+pub normal-of : (b : ℕ) → 0 < b → b < 2047 * 2 ^ 52 → (d : ℕ) × (e : ℕ) × Normal (at b) d e
 normal-of b h l = ⊎-elim (λ f. (b % 2 ^ 52 + 2 ^ 52, b / 2 ^ 52 + 1023, normal b l f)) less (lt-or-ge 0 (b / 2 ^ 52))
   where
     less : b / 2 ^ 52 ≤ 0 → (d : ℕ) × (e : ℕ) × Normal (at b) d e

@@ -4,7 +4,7 @@ use mathlib.Core.Logic.{_⊎_, inl, inr, ⊎-elim}
 use lib.Dec.{T, ltb, ltb→lt, nltb→le}
 use mathlib.Core.Bool.{Bool, true, false, not, cond}
 use Prim.Native.Nat.{ℕ, zero, suc, _+_, _-_, _*_, _/_, _%_, _^_, _≤_, _<_}
-use native.Mathlib.Nat.{eq-or-lt-of-le, le-of-lt, lt-of-mul-lt-mul-right, mul-le-mul, mul-mul-mul-comm, not-le-of-lt, mul-pos, mul-lt-mul-of-pos-left, pow-suc, mul-comm, mul-assoc, lt-of-not-le, lt-irrefl, lt-of-le-of-lt, lt-of-lt-of-le, le-trans, le-of-eq, one-mul, mul-le-mul-left, mul-le-mul-right, mul-lt-mul-of-pos-right}
+use native.Mathlib.Nat.{eq-or-lt-of-le, le-of-lt, lt-of-mul-lt-mul-right, mul-le-mul, mul-mul-mul-comm, not-le-of-lt, mul-pos, mul-lt-mul-of-pos-left, pow-suc, mul-comm, mul-assoc, lt-of-not-le, lt-irrefl, lt-of-le-of-lt, lt-of-lt-of-le, le-trans, le-of-eq, one-mul, mul-le-mul-left, mul-le-mul-right, mul-lt-mul-of-pos-right, mul-one}
 use native.Mathlib.Omega.{arith}
 use lib.Pow.{pow-pos, pow-add, pow-mono}
 use Rattle.vector.specs.Steps.{Digits, Normal, NearestUnits, at}
@@ -68,6 +68,32 @@ module _ {n rest q bit : ℕ} (s : Step n rest q bit) (more : 1 < bit) where
       whole-left : (rest bit q h m : ℕ) → bit ≡ 2 * h → rest * bit + q * q ≡ m → rest * 2 * h + q * q ≡ m
       whole-left rest bit q h m b w = omega (arith, ap (λ (x : ℕ). rest * x) b)
 
+-- a turn of the loop: the digit is a number, 1 or 0
+pub turn : {n rest q bit : ℕ} → Step n rest q bit → 1 < bit → (t g : ℕ) → t ≡ 2 * q + bit / 2 → g ≡ (2 ^ 63 + rest * 2 - t) / 2 ^ 63 → Step n (rest * 2 - t * g) (q + bit / 2 * g) (bit / 2)
+turn {n} {rest} {q} {bit} s more t g e f = ⊎-elim without with (lt-or-ge (rest * 2) (2 * q + bit / 2))
+  where
+    with : 2 * q + bit / 2 ≤ rest * 2 → Step n (rest * 2 - t * g) (q + bit / 2 * g) (bit / 2)
+    with l =
+        let o : g ≡ 1 = omega (arith, s .small, s .room) in
+        rw (o, mul-one t, mul-one (bit / 2), e) (taken s more l)
+
+    without : rest * 2 < 2 * q + bit / 2 → Step n (rest * 2 - t * g) (q + bit / 2 * g) (bit / 2)
+    without l =
+        let o : g ≡ 0 = omega (arith, s .small, s .room) in
+        let u : rest * 2 - t * g ≡ rest * 2 = rw o (omega arith) in
+        let v : q + bit / 2 * g ≡ q = rw o (omega arith) in
+        rw (u, v) (left s more l)
+
+-- and what it takes away is there
+pub paid : {n rest q bit : ℕ} → Step n rest q bit → (t g : ℕ) → t ≡ 2 * q + bit / 2 → g ≡ (2 ^ 63 + rest * 2 - t) / 2 ^ 63 → (t * g ≤ rest * 2) × (bit / 2 * g ≤ bit / 2)
+paid {n} {rest} {q} {bit} s t g e f = ⊎-elim without with (lt-or-ge (rest * 2) t)
+  where
+    with : t ≤ rest * 2 → (t * g ≤ rest * 2) × (bit / 2 * g ≤ bit / 2)
+    with l = let o : g ≡ 1 = omega (arith, s .small, s .room) in rw (o, mul-one t, mul-one (bit / 2)) (l, omega arith)
+
+    without : rest * 2 < t → (t * g ≤ rest * 2) × (bit / 2 * g ≤ bit / 2)
+    without l = let o : g ≡ 0 = omega (arith, s .small, s .room) in rw o (omega arith, omega arith)
+
 pub last : (n rest q bit : ℕ) → Step n rest q bit → bit ≤ 1 → (q < 2 ^ 54) × Digits (n * 2 ^ 54) q
 last n rest q bit s h =
     let o : bit ≡ 1 = omega (arith, s .power, pow-pos (s .place)) in
@@ -80,7 +106,7 @@ pub at-low : (b : ℕ) → b / 2 ^ 52 ≤ 0 → at b ≡ b % 2 ^ 52
 unfolding at
 at-low b h = let z : b / 2 ^ 52 ≡ 0 = omega arith in rw z
 
-at-high : (b x : ℕ) → b / 2 ^ 52 ≡ suc x → at b ≡ (2 ^ 52 + b % 2 ^ 52) * 2 ^ x
+pub at-high : (b x : ℕ) → b / 2 ^ 52 ≡ suc x → at b ≡ (2 ^ 52 + b % 2 ^ 52) * 2 ^ x
 unfolding at
 at-high b x h = rw h
 
@@ -130,7 +156,7 @@ pub risen : {n d e : ℕ} → Rising n d e → 2 ^ 52 ≤ d → Normal n d e
 risen r h = record { least = h; most = r .most; low = r .low; high = omega (arith, r .high); same = r .same }
 
 -- ---- the numbers of at most 53 digits with zeros behind, about one that has a leading digit
-dn : (m j c k : ℕ) → m < 2 ^ 53 → 2 ^ 52 ≤ c → m * 2 ^ j < (c + 1) * 2 ^ k → m * 2 ^ j ≤ c * 2 ^ k
+pub dn : (m j c k : ℕ) → m < 2 ^ 53 → 2 ^ 52 ≤ c → m * 2 ^ j < (c + 1) * 2 ^ k → m * 2 ^ j ≤ c * 2 ^ k
 dn m j c k h l t = ⊎-elim far near (lt-or-ge j k)
   where
     -- j < k: below 2 ^ 53 * 2 ^ (k - 1)
@@ -145,12 +171,12 @@ dn m j c k h l t = ⊎-elim far near (lt-or-ge j k)
         let u : m * 2 ^ (j - k) < c + 1 = lt-of-mul-lt-mul-right (2 ^ k) (subst (λ (z : ℕ). z < (c + 1) * 2 ^ k) e t) in
         le-trans (le-of-eq e) (mul-le-mul-right (2 ^ k) (omega arith))
 
-up : (m j c k : ℕ) → m < 2 ^ 53 → 2 ^ 52 ≤ c → c * 2 ^ k < m * 2 ^ j → (c + 1) * 2 ^ k ≤ m * 2 ^ j
+pub up : (m j c k : ℕ) → m < 2 ^ 53 → 2 ^ 52 ≤ c → c * 2 ^ k < m * 2 ^ j → (c + 1) * 2 ^ k ≤ m * 2 ^ j
 up m j c k h l t = ⊎-elim (λ g. absurd (not-le-of-lt t (dn m j c k h l g))) (λ g. g) (lt-or-ge (m * 2 ^ j) ((c + 1) * 2 ^ k))
 
 -- ---- the rounded root
 
-sq-lt : (a b : ℕ) → a < b → a * a < b * b
+pub sq-lt : (a b : ℕ) → a < b → a * a < b * b
 sq-lt a b h = lt-of-le-of-lt (mul-le-mul-left a (le-of-lt h)) (mul-lt-mul-of-pos-right h (omega arith))
 
 odd-square : (a b : ℕ) → (2 * a + 1) * (2 * a + 1) ≡ 2 * b → ⊥
@@ -242,6 +268,48 @@ module _ (N n h s : ℕ) (least : 2 ^ 52 ≤ n) (most : n < 2 ^ 54) (few : s < 2
         },
       )
 
+  -- a number larger by eight in the last of n's digits has a larger root: between the two lies a number of at most 53 digits
+  pub gap : (K y : ℕ) → (n + 8) * 2 ^ (2 * h) ≤ K * 2 ^ 1024 → NearestUnits K y → at ((h - 1) * 2 ^ 52 + (s + 1) / 2) < y
+  gap K y far q = lt-of-not-le (λ (l : y ≤ at ((h - 1) * 2 ^ 52 + (s + 1) / 2)). clash (rw (at-join (h - 1) ((s + 1) / 2) (omega (arith, big)) (omega arith)) at l))
+    where
+      k : ℕ
+      k = h - 1
+
+      c : ℕ
+      c = (s + 1) / 2
+
+      m : ℕ
+      m = c / 2 + 1
+
+      next : m * 2 * 2 ^ k ≡ m * 2 ^ (1 + k)
+      next = shift-to m 1 k (1 + k) refl
+
+      spread : (n + 8) * 2 ^ (2 * h) * 2 ^ 52 ≡ (n + 8) * 2 ^ 54 * (2 ^ k * 2 ^ k)
+      spread =
+          shift-to (n + 8) (2 * h) 52 (54 + k + k) (omega arith)
+          ∙ sym (shift-to (n + 8) (54 + k) k (54 + k + k) refl)
+          ∙ ap (λ (x : ℕ). x * 2 ^ k) (sym (shift-to (n + 8) 54 k (54 + k) refl))
+          ∙ mul-assoc ((n + 8) * 2 ^ 54) (2 ^ k) (2 ^ k)
+
+      square : (s + 3) * (s + 3) ≤ (n + 8) * 2 ^ 54
+      square = omega (arith, r .not-above)
+
+      clash : y ≤ c * 2 ^ k → ⊥
+      clash l =
+          let below : c < m * 2 = omega arith in
+          let within : c + m * 2 ≤ s + 3 = omega arith in
+          let t : y < m * 2 ^ (1 + k) = lt-of-le-of-lt l (lt-of-lt-of-le (mul-lt-mul-of-pos-right below (pow-pos k)) (le-of-eq next)) in
+          let v : y + m * 2 ^ (1 + k) ≤ (s + 3) * 2 ^ k = sum y (m * 2 ^ (1 + k)) (2 ^ k) l (sym next) within in
+          not-le-of-lt (q .above m (1 + k) (omega arith) t)
+          (le-trans (mul-le-mul v v)
+          (le-trans (le-of-eq (mul-mul-mul-comm (s + 3) (2 ^ k) (s + 3) (2 ^ k)))
+          (le-trans (mul-le-mul-right (2 ^ k * 2 ^ k) square)
+          (le-trans (le-of-eq (sym spread))
+          (le-trans (mul-le-mul-right (2 ^ 52) far) (le-of-eq (shift-to K 1024 52 1076 refl)))))))
+        where
+          sum : (a b p : ℕ) → a ≤ c * p → b ≡ m * 2 * p → c + m * 2 ≤ s + 3 → a + b ≤ (s + 3) * p
+          sum a b p f g w = le-trans (omega (arith, f, g)) (mul-le-mul-right p w)
+
 -- the two ways of `root_bits`: an even exponent, and an odd one, which takes one digit more
 pub by-even : (N d e s : ℕ) → Normal N d e → e % 2 ≡ 0 → s < 2 ^ 54 → Digits (d * 2 ^ 54) s
     → ((e / 2 - 1) * 2 ^ 52 + (s + 1) / 2 < 2047 * 2 ^ 52) × NearestUnits N (at ((e / 2 - 1) * 2 ^ 52 + (s + 1) / 2))
@@ -255,3 +323,19 @@ by-odd N d e s n p f r =
     let q : 1 + 2 * (e / 2) ≡ e = omega arith in
     joined N (d * 2) (e / 2) s (omega (arith, n .least)) (omega (arith, n .most)) f r (omega (arith, n .low)) (omega (arith, n .high))
     (n .same ∙ sym (shift-to d 1 (2 * (e / 2)) e q))
+
+pub by-parity : (N d e s : ℕ) → Normal N d e → s < 2 ^ 54 → Digits (d * (1 + e % 2) * 2 ^ 54) s
+    → ((e / 2 - 1) * 2 ^ 52 + (s + 1) / 2 < 2047 * 2 ^ 52) × NearestUnits N (at ((e / 2 - 1) * 2 ^ 52 + (s + 1) / 2))
+by-parity N d e s n f r = ⊎-elim odd even (lt-or-ge 0 (e % 2))
+  where
+    odd : 0 < e % 2 → ((e / 2 - 1) * 2 ^ 52 + (s + 1) / 2 < 2047 * 2 ^ 52) × NearestUnits N (at ((e / 2 - 1) * 2 ^ 52 + (s + 1) / 2))
+    odd p = let o : 1 + e % 2 ≡ 2 = omega arith in by-odd N d e s n (λ z. omega arith) f (rw o at r)
+
+    even : e % 2 ≤ 0 → ((e / 2 - 1) * 2 ^ 52 + (s + 1) / 2 < 2047 * 2 ^ 52) × NearestUnits N (at ((e / 2 - 1) * 2 ^ 52 + (s + 1) / 2))
+    even p =
+        let z : e % 2 ≡ 0 = omega arith in
+        let o : d * (1 + e % 2) ≡ d = rw z (mul-one d) in
+        by-even N d e s n z f (rw o at r)
+
+pub twice : (d e : ℕ) → d < 2 ^ 53 → d * (1 + e % 2) < 2 ^ 54
+twice d e h = let o : 1 + e % 2 ≤ 2 = omega arith in lt-of-le-of-lt (mul-le-mul-left d o) (omega arith)

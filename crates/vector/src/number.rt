@@ -4,7 +4,10 @@ ghost use mathlib.Core.Path.{_≡_};
 ghost use Prim.Native.Nat.{_+_, _*_, _^_, _<_, _≤_};
 ghost use Rattle.vector.specs.Answers.{wholeSaid, rootSaid};
 ghost use Rattle.vector.specs.Floor.{floorOf};
+ghost use mathlib.Core.Bool.{true};
+ghost use lib.Ieee.{binary64, lt, mul};
 ghost use Rattle.vector.specs.Root.{rootOf};
+ghost use Rattle.vector.specs.Lengths.{orNan};
 ghost use Rattle.vector.specs.Steps.{at, Digits, Normal, NearestUnits};
 ghost use Rattle.vector.specs.Abs.{absOf};
 
@@ -56,7 +59,7 @@ struct Scaled {
 }
 
 // The whole part of the root of n * 2^54, digit by digit. `rest` times `bit` is what is left of
-// n * 2^54 when the square of the digits found is taken away.
+// n * 2^54 when the square of the digits found is taken away. No branch hangs on a digit: none could be guessed.
 fn digits(n: u64) -> u64
     requires { ⌜ n < 2 ^ 54 ⌝ }
     ensures { λ r. ⌜ (r < 2 ^ 54) × Digits (n * 2 ^ 54) r ⌝ }
@@ -68,10 +71,9 @@ fn digits(n: u64) -> u64
         bit = bit / 2;
         rest = rest * 2;
         let t = 2 * q + bit;
-        if t <= rest {
-            rest -= t;
-            q += bit;
-        }
+        let digit = (0x8000_0000_0000_0000 + rest - t) / 0x8000_0000_0000_0000; // 1 where t <= rest, else 0
+        rest -= t * digit;
+        q += bit * digit;
     }
     q
 }
@@ -106,12 +108,9 @@ fn root_bits(b: u64) -> u64
     ensures { λ r. ⌜ (r < 2047 * 2 ^ 52) × NearestUnits (at b) (at r) ⌝ }
 {
     let s = split(b);
-    let d = s.d;
     let e = s.e;
-    if e % 2 == 0 {
-        return (e / 2 - 1) * 0x10_0000_0000_0000 + (digits(d) + 1) / 2;
-    }
-    (e / 2 - 1) * 0x10_0000_0000_0000 + (digits(d * 2) + 1) / 2
+    let n = s.d * (1 + e % 2); // an odd exponent takes one digit more
+    (e / 2 - 1) * 0x10_0000_0000_0000 + (digits(n) + 1) / 2
 }
 
 // The f64 nearest to the root of x; zeros and infinity are their own roots.
@@ -128,4 +127,66 @@ pub fn sqrt(x: f64) -> Root
         return Root::Of(x);
     }
     Root::Refused(Refusal::Number)
+}
+
+// The root, NaN where there is none.
+pub fn root_or_nan(x: f64) -> f64
+    ensures { λ r. ⌜ r ≡ orNan (rootOf x) ⌝ }
+{
+    match sqrt(x) {
+        Root::Of(y) => y,
+        Root::Refused(_) => 0.0 / 0.0,
+    }
+}
+
+// Whether x is so far above y, by eight f64 or more, that its root must be above that of y.
+fn far_above(x: f64, y: f64) -> bool
+    requires { ⌜ lt y x ≡ true ⌝ }
+    ensures { λ r. ⌜ (r ≡ true → lt (orNan (rootOf y)) (orNan (rootOf x)) ≡ true) ⌝ }
+{
+    if y > 0.0 {
+        if 1.0 / 0.0 > x {
+            return f64::to_bits(y) + 8 <= f64::to_bits(x);
+        }
+        return false;
+    }
+    y == 0.0
+}
+
+// Whether the root of x is above that of y. The roots are worked out only where x is hardly above y.
+pub fn root_above(x: f64, y: f64) -> bool
+    ensures { λ r. ⌜ r ≡ lt (orNan (rootOf y)) (orNan (rootOf x)) ⌝ }
+{
+    if !(x > y) {
+        return false;
+    }
+    if far_above(x, y) {
+        return true;
+    }
+    root_or_nan(x) > root_or_nan(y)
+}
+
+// Whether t times t keeps enough digits for its root to be t.
+fn squares_well(t: f64) -> bool
+    ensures { λ r. ⌜ (r ≡ true → orNan (rootOf (mul binary64 t t)) ≡ t) ⌝ }
+{
+    if t > 0.0 {
+        if 1.0 / 0.0 > t {
+            let b = f64::to_bits(t);
+            if 0x21a0_0000_0000_0000 <= b {
+                return b < 0x4b00_0000_0000_0000;
+            }
+        }
+    }
+    false
+}
+
+// Whether the root of x is above t. It is worked out only where x is hardly above t times t.
+pub fn root_exceeds(x: f64, t: f64) -> bool
+    ensures { λ r. ⌜ r ≡ lt t (orNan (rootOf x)) ⌝ }
+{
+    if squares_well(t) {
+        return root_above(x, t * t);
+    }
+    root_or_nan(x) > t
 }

@@ -1,24 +1,24 @@
 //! Stored rows of the calls on lent lists: an input, and what the rules and the original say that the call leaves, one to a
-//! line. The program `replay` works them out by the proved crates.
+//! line. The programs `replay` and `replay_strokes` work them out by the proved crates.
 //!
 //! A row is words of hexadecimal digits with one space between: the call's number, the status, how many numbers each list of
 //! the input has, the other numbers, the lists and, where the status is 0, the counts and what was written. Every list that is
 //! lent has [`LENT`] elements.
 
 use crate::calls::strokes::bits;
-use crate::calls::{Left, Lent, chop, section, splice, weld};
+use crate::calls::{Left, Lent, adaptive, chop, section, simplify, splice, weld};
 use crate::random::Random;
 
 /// The elements of each list that a row's call is lent.
 pub const LENT: usize = 96;
 
-/// The most words that a row may have: what `replay` holds.
+/// The most words that a row may have: what the programs hold.
 const MOST_WORDS: usize = 247;
 
 /// How many rows each call has.
 const ROWS: usize = 300;
 
-/// Every row of every call, the same each time.
+/// Every row that `replay` is run on, the same each time.
 pub fn rows() -> Vec<String> {
     let mut random = Random::new(2);
     let mut all = Vec::new();
@@ -26,6 +26,15 @@ pub fn rows() -> Vec<String> {
     all.extend(made(&mut random, splice_row));
     all.extend(made(&mut random, weld_row));
     all.extend(made(&mut random, section_row));
+    all
+}
+
+/// Every row that `replay_strokes` is run on, the same each time. They have numbers of their own.
+pub fn stroke_rows() -> Vec<String> {
+    let mut random = Random::new(3);
+    let mut all = Vec::new();
+    all.extend(made(&mut random, simplify_row));
+    all.extend(made(&mut random, adaptive_row));
     all
 }
 
@@ -93,4 +102,17 @@ fn section_row(random: &mut Random) -> Option<Vec<u64>> {
     let numbers = [bits(input.tolerance)].into_iter().chain(reals(&input.plane));
     let lists = numbers.chain(reals(&input.vertices)).chain(words(&input.indices)).collect();
     row(24, &[input.vertices.len(), input.indices.len()], lists, &section::judged(&input), 3)
+}
+
+fn simplify_row(random: &mut Random) -> Option<Vec<u64>> {
+    let input = simplify::Input { lent: lent(bits(9.0)), ..simplify::make(random) };
+    let lists = [bits(input.threshold)].into_iter().chain(reals(&input.points)).chain(words(&input.starts)).collect();
+    row(1, &[input.points.len(), input.starts.len()], lists, &simplify::judged(&input), 3)
+}
+
+fn adaptive_row(random: &mut Random) -> Option<Vec<u64>> {
+    let input = adaptive::Input { lent: lent(bits(9.0)), ..adaptive::make(random) };
+    let numbers = reals(&input.matrix).chain([input.width, input.height, input.step, input.tolerance].map(bits));
+    let lists = numbers.chain(reals(&input.points)).chain(words(&input.starts)).collect();
+    row(2, &[input.points.len(), input.starts.len()], lists, &adaptive::judged(&input), 3)
 }

@@ -7,6 +7,7 @@ use Rattle.path_chop.specs.Chop.{tooMany, spans, capped}
 use lib.ListN.{length}
 use Prim.Native.Nat.{_+_, _-_, _≤_}
 use native.Mathlib.Omega.{arith}
+use Rattle.vector.proofs.RootLaws.{rooted}
 use mathlib.Core.Path.{_≡_, refl, sym, ap, _∙_}
 use Rattle.path_chop.proofs.count_spans.Statement.{statement}
 use Rattle.path_chop.proofs.count_spans.Tie as tie
@@ -31,8 +32,8 @@ point-at-requires c κs = search needs
 sub-requires : tie.Need-sub-requires Inv-loop μ-loop
 sub-requires c κs = search needs
 
-length-requires : tie.Need-length-requires Inv-loop μ-loop
-length-requires c κs = search needs
+length-squared-requires : tie.Need-length-squared-requires Inv-loop μ-loop
+length-squared-requires c κs = search needs
 
 count-steps-requires : tie.Need-count-steps-requires Inv-loop μ-loop
 count-steps-requires c κs = search needs
@@ -53,7 +54,7 @@ loop-again : tie.Need-loop-again Inv-loop μ-loop
 loop-again c =
     let l = c .before .before .before .before .before .before in
     let a = l .before .before .args in
-    let k = spans-count (a .step) (pointAt (a .points .now)) (l .loop .j) (a .e) (l .loop .p) (search needs) _ (c .before .before .before .point-at .ensures) _ (c .before .before .sub .ensures) _ (c .before .length .ensures) in
+    let k = spans-count (a .step) (pointAt (a .points .now)) (l .loop .j) (a .e) (l .loop .p) (search needs) _ (c .before .before .before .point-at .ensures) _ (c .before .before .sub .ensures) _ (ap rooted (c .before .length-squared .ensures)) in
     (omega arith, ap capped (omega arith) ∙ l .loop .inv .1)
 
 cap-requires : tie.Need-cap-requires Inv-loop μ-loop
@@ -76,7 +77,7 @@ count-spans-spec =
     returns
     point-at-requires
     sub-requires
-    length-requires
+    length-squared-requires
     count-steps-requires
     add-n
     add-n-2

@@ -17,6 +17,7 @@ use Rattle.path_simplify.proofs.keep.Kinds as keep-kinds
 use Rattle.path_simplify.proofs.+keep.Lts-keep as keep-lts
 use Rattle.path.proofs.point_at.Reads as point-at-reads
 use Rattle.path.proofs.put_point.Reads as put-point-reads
+use Rattle.path_simplify.specs.Squares.{farOf}
 use Rattle.path_simplify.proofs.find_far.Reads as find-far-reads
 use Rattle.path_simplify.proofs.splits.Reads as splits-reads
 use Rattle.path_simplify.proofs.+keep.{statement}
@@ -51,7 +52,7 @@ keep-keep-requires t c κs =
     let a = c .before .before .before .before .before .before .before .args in
     let f = c .before .before .before .find-far in
     let at = pointAt (a .points .now) in
-    let k = thin-split (a .threshold) at (a .lo) (a .hi) (omega arith) (f .result) (f .ensures) (sym (c .before .before .splits .ensures) ∙ c .before .if2 .taken) in
+    let k = thin-split (a .threshold) at (a .lo) (a .hi) (omega arith) (farOf (f .result)) (f .ensures) (sym (c .before .before .splits .ensures) ∙ c .before .if2 .taken) in
     let n = parts-length _ _ _ _ (k .2) in
     let d = parts-measured _ _ _ _ (k .2) in
     (omega arith, (omega arith, omega arith))
@@ -61,7 +62,7 @@ keep-keep-requires-2 t c κs =
     let a = c .before .before .before .before .before .before .before .before .before .before .before .args in
     let f = c .before .before .before .before .before .before .before .find-far in
     let at = pointAt (a .points .now) in
-    let k = thin-split (a .threshold) at (a .lo) (a .hi) (omega arith) (f .result) (f .ensures) (sym (c .before .before .before .before .before .before .splits .ensures) ∙ c .before .before .before .before .before .if2 .taken) in
+    let k = thin-split (a .threshold) at (a .lo) (a .hi) (omega arith) (farOf (f .result)) (f .ensures) (sym (c .before .before .before .before .before .before .splits .ensures) ∙ c .before .before .before .before .before .if2 .taken) in
     let n = parts-length _ _ _ _ (k .2) in
     let d = parts-measured _ _ _ _ (k .2) in
     let o = ink-place putPoints (pen (a .out .now) (a .at)) (thin (f .result .at - a .lo) (a .threshold) at (a .lo) (f .result .at) .points) (c .before .before .before .keep .ensures .0) in
@@ -78,7 +79,7 @@ keep-add-t19 t c =
     let a = c .before .before .before .before .before .before .before .before .before .before .before .before .before .before .before .args in
     let f = c .before .before .before .before .before .before .before .before .before .before .before .find-far in
     let at = pointAt (a .points .now) in
-    let k = thin-split (a .threshold) at (a .lo) (a .hi) (omega arith) (f .result) (f .ensures) (sym (c .before .before .before .before .before .before .before .before .before .before .splits .ensures) ∙ c .before .before .before .before .before .before .before .before .before .if2 .taken) in
+    let k = thin-split (a .threshold) at (a .lo) (a .hi) (omega arith) (farOf (f .result)) (f .ensures) (sym (c .before .before .before .before .before .before .before .before .before .before .splits .ensures) ∙ c .before .before .before .before .before .before .before .before .before .if2 .taken) in
     let n = parts-length _ _ _ _ (k .2) in
     let d = parts-measured _ _ _ _ (k .2) in
     omega (arith, c .before .before .before .before .before .before .before .before .before .before .before .before .before .before .before .pre .1 .1, c .before .before .before .before .before .before .before .keep .ensures .1)
@@ -88,7 +89,7 @@ keep-add-t20 t c =
     let a = c .before .before .before .before .before .before .before .before .before .before .before .before .before .before .before .before .args in
     let f = c .before .before .before .before .before .before .before .before .before .before .before .before .find-far in
     let at = pointAt (a .points .now) in
-    let k = thin-split (a .threshold) at (a .lo) (a .hi) (omega arith) (f .result) (f .ensures) (sym (c .before .before .before .before .before .before .before .before .before .before .before .splits .ensures) ∙ c .before .before .before .before .before .before .before .before .before .before .if2 .taken) in
+    let k = thin-split (a .threshold) at (a .lo) (a .hi) (omega arith) (farOf (f .result)) (f .ensures) (sym (c .before .before .before .before .before .before .before .before .before .before .before .splits .ensures) ∙ c .before .before .before .before .before .before .before .before .before .before .if2 .taken) in
     let n = parts-length _ _ _ _ (k .2) in
     let d = parts-measured _ _ _ _ (k .2) in
     omega (arith, c .before .before .before .before .before .before .before .before .before .before .before .before .before .before .before .before .pre .1 .1, c .before .before .before .before .before .before .before .before .keep .ensures .1, c .before .before .before .before .keep2 .ensures .1)
@@ -101,7 +102,7 @@ keep-returns-2 t c =
     let a = c .before .before .before .before .before .before .before .before .before .before .before .before .before .before .before .before .args in
     let f = c .before .before .before .before .before .before .before .before .before .before .before .before .find-far in
     let at = pointAt (a .points .now) in
-    let k = thin-split (a .threshold) at (a .lo) (a .hi) (omega arith) (f .result) (f .ensures) (sym (c .before .before .before .before .before .before .before .before .before .before .before .splits .ensures) ∙ c .before .before .before .before .before .before .before .before .before .before .if2 .taken) in
+    let k = thin-split (a .threshold) at (a .lo) (a .hi) (omega arith) (farOf (f .result)) (f .ensures) (sym (c .before .before .before .before .before .before .before .before .before .before .before .splits .ensures) ∙ c .before .before .before .before .before .before .before .before .before .before .if2 .taken) in
     let n = parts-length _ _ _ _ (k .2) in
     let d = parts-measured _ _ _ _ (k .2) in
     (parts-ink _ _ _ _ (k .2) (pen (a .out .now) (a .at)) _ _ (c .before .before .before .before .before .before .before .before .keep .ensures .0) (c .before .before .before .before .keep2 .ensures .0), omega (arith, c .before .before .before .before .before .before .before .before .keep .ensures .1, c .before .before .before .before .keep2 .ensures .1))
@@ -116,7 +117,7 @@ keep-add-t25 : (t : ℕ) → keep-lts.Need-add-t25 (claims t) (keep-at t) keep.P
 keep-add-t25 t c =
     let a = c .before .before .before .before .before .before .before .before .before .before .before .args in
     let f = c .before .before .before .before .before .before .before .find-far in
-    let k = thin-first (a .threshold) (pointAt (a .points .now)) (a .lo) (a .hi) (omega arith) (f .result) (f .ensures) (sym (c .before .before .before .before .before .before .splits .ensures) ∙ c .before .before .before .before .before .if2 .left) in
+    let k = thin-first (a .threshold) (pointAt (a .points .now)) (a .lo) (a .hi) (omega arith) (farOf (f .result)) (f .ensures) (sym (c .before .before .before .before .before .before .splits .ensures) ∙ c .before .before .before .before .before .if2 .left) in
     omega (arith, first-length _ _ _ _ k)
 
 keep-sub-t26 : (t : ℕ) → keep-lts.Need-sub-t26 (claims t) (keep-at t) keep.Post
@@ -132,7 +133,7 @@ keep-returns-3 : (t : ℕ) → keep-lts.Need-returns-3 (claims t) (keep-at t) ke
 keep-returns-3 t c =
     let a = c .before .before .before .before .before .before .before .before .before .before .before .args in
     let f = c .before .before .before .before .before .before .before .find-far in
-    let k = thin-first (a .threshold) (pointAt (a .points .now)) (a .lo) (a .hi) (omega arith) (f .result) (f .ensures) (sym (c .before .before .before .before .before .before .splits .ensures) ∙ c .before .before .before .before .before .if2 .left) in
+    let k = thin-first (a .threshold) (pointAt (a .points .now)) (a .lo) (a .hi) (omega arith) (farOf (f .result)) (f .ensures) (sym (c .before .before .before .before .before .before .splits .ensures) ∙ c .before .before .before .before .before .if2 .left) in
     (first-ink _ _ _ _ k (a .out .now) _ (a .at) _ (c .before .before .before .point-at .ensures) (c .before .before .put-point .ensures), omega (arith, first-measured _ _ _ _ k))
 
 pub +keep-spec : {M : Type 1} → statement M

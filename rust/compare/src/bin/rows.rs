@@ -1,4 +1,5 @@
-//! Makes the stored rows of the arithmetic and of the calls on lent lists: `rows > crates/replay/stdin`. The same rows each time.
+//! Makes the stored rows, the same each time: `rows > crates/replay/stdin` those of the arithmetic and of most calls on lent
+//! lists, `rows strokes > crates/replay_strokes/stdin` those of simplify and chop_adaptive.
 
 #[cfg(not(original))]
 fn main() {
@@ -10,7 +11,9 @@ fn main() {
 fn main() {
     use std::io::Write;
     let mut out = std::io::BufWriter::new(std::io::stdout().lock());
-    for line in made::rows().into_iter().chain(compare::call_rows::rows()) {
+    let strokes = std::env::args().nth(1).is_some_and(|word| word == "strokes");
+    let most = || made::rows().into_iter().chain(compare::call_rows::rows()).collect();
+    for line in if strokes { compare::call_rows::stroke_rows() } else { most() } {
         writeln!(out, "{line}").unwrap();
     }
 }
