@@ -10,7 +10,9 @@ use Rattle.path.specs.Left as P
 use Rattle.path_splice.specs.Lent as S
 use Rattle.mesh_weld.specs.Call as W
 use Rattle.mesh_strokes.specs.Strokes as D
-use Rattle.ramikohy.specs.Calls.{Strokes, strokes, strokesBy, Splice, splice, spliceBy, Weld, weld, weldBy, Draw, draw, drawBy}
+use Rattle.sheet_write.specs.Write as O
+use Rattle.sheet_read.specs.Read as R
+use Rattle.ramikohy.specs.Calls.{Strokes, strokes, strokesBy, Splice, splice, spliceBy, Weld, weld, weldBy, Draw, draw, drawBy, Writing, writing, writingBy, Reading, reading, readingBy}
 
 module _ (l : P.Left) (answer : Said ℕ) (ps : List Float) (ss : List ℕ) (old : List ℕ) (is : P.left answer ps ss ≡ l) where
   pub wrote : (n : ℕ) (ns : List ℕ) → answer ≡ accepted (n ∷ ns) → strokes 0 (n ∷ ns) ps ss ≡ strokesBy l old
@@ -40,6 +42,20 @@ module _ (l : D.Left) (answer : Said ℕ) (ws : List ℕ) (fs : List Float) (ps 
   pub refuse-draw : (k : ℕ) (why : Refusal) → k ≡ numberOf why → answer ≡ refused why → draw k old ws fs ps ss ≡ drawBy l old
   refuse-draw k why n e = ap (λ (x : ℕ). draw x old ws fs ps ss) n ∙ ap (λ (a : Said ℕ). drawBy (D.left a ws fs ps ss) old) (sym e) ∙ ap (λ (x : D.Left). drawBy x old) is
 
+module _ (l : O.Left) (answer : Said ℕ) (bs : List ℕ) (old : List ℕ) (is : O.left answer bs ≡ l) where
+  pub wrote-sheet : (n : ℕ) (ns : List ℕ) → answer ≡ accepted (n ∷ ns) → writing 0 (n ∷ ns) bs ≡ writingBy l old
+  wrote-sheet n ns e = ap (λ (a : Said ℕ). writingBy (O.left a bs) old) (sym e) ∙ ap (λ (x : O.Left). writingBy x old) is
+
+  pub refuse-writing : (k : ℕ) (why : Refusal) → k ≡ numberOf why → answer ≡ refused why → writing k old bs ≡ writingBy l old
+  refuse-writing k why n e = ap (λ (x : ℕ). writing x old bs) n ∙ ap (λ (a : Said ℕ). writingBy (O.left a bs) old) (sym e) ∙ ap (λ (x : O.Left). writingBy x old) is
+
+module _ (l : R.Left) (answer : Said ℕ) (ps ss : List ℕ) (old : List ℕ) (is : R.left answer ps ss ≡ l) where
+  pub did-read : (n : ℕ) (ns : List ℕ) → answer ≡ accepted (n ∷ ns) → reading 0 (n ∷ ns) ps ss ≡ readingBy l old
+  did-read n ns e = ap (λ (a : Said ℕ). readingBy (R.left a ps ss) old) (sym e) ∙ ap (λ (x : R.Left). readingBy x old) is
+
+  pub refuse-reading : (k : ℕ) (why : Refusal) → k ≡ numberOf why → answer ≡ refused why → reading k old ps ss ≡ readingBy l old
+  refuse-reading k why n e = ap (λ (x : ℕ). reading x old ps ss) n ∙ ap (λ (a : Said ℕ). readingBy (R.left a ps ss) old) (sym e) ∙ ap (λ (x : R.Left). readingBy x old) is
+
 -- two outcomes that the same record fixes are equal
 pub one-strokes : {l : Strokes} {s t : ℕ} {ns ms : List ℕ} {ps qs : List Float} {ss us : List ℕ} → strokes s ns ps ss ≡ l → strokes t ms qs us ≡ l
     → (s ≡ t) × (ns ≡ ms) × (ps ≡ qs) × (ss ≡ us)
@@ -64,3 +80,13 @@ pub one-draw : {l : Draw} {s t : ℕ} {ns ms ws xs : List ℕ} {fs gs : List Flo
 one-draw e f =
     let h = e ∙ sym f in
     (ap (λ (x : Draw). x .status) h, ap (λ (x : Draw). x .counts) h, ap (λ (x : Draw). x .scratch) h, ap (λ (x : Draw). x .seen) h, ap (λ (x : Draw). x .points) h, ap (λ (x : Draw). x .starts) h)
+
+pub one-writing : {l : Writing} {s t : ℕ} {ns ms bs cs : List ℕ} → writing s ns bs ≡ l → writing t ms cs ≡ l → (s ≡ t) × (ns ≡ ms) × (bs ≡ cs)
+one-writing e f =
+    let h = e ∙ sym f in
+    (ap (λ (x : Writing). x .status) h, ap (λ (x : Writing). x .counts) h, ap (λ (x : Writing). x .bytes) h)
+
+pub one-reading : {l : Reading} {s t : ℕ} {ns ms ps qs ss us : List ℕ} → reading s ns ps ss ≡ l → reading t ms qs us ≡ l → (s ≡ t) × (ns ≡ ms) × (ps ≡ qs) × (ss ≡ us)
+one-reading e f =
+    let h = e ∙ sym f in
+    (ap (λ (x : Reading). x .status) h, ap (λ (x : Reading). x .counts) h, ap (λ (x : Reading). x .numbers) h, ap (λ (x : Reading). x .starts) h)

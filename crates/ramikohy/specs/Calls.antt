@@ -6,6 +6,8 @@ use Rattle.path.specs.Left as P
 use Rattle.path_splice.specs.Lent as S
 use Rattle.mesh_weld.specs.Call as W
 use Rattle.mesh_strokes.specs.Strokes as D
+use Rattle.sheet_write.specs.Write as O
+use Rattle.sheet_read.specs.Read as R
 
 -- the counts of an answer; the places are as they were where there is none
 abbrev pub countsOf : List ℕ → List ℕ → List ℕ
@@ -67,3 +69,28 @@ draw s ns ws fs ps ss = record { status = s; counts = ns; scratch = ws; seen = f
 
 abbrev pub drawBy : D.Left → List ℕ → Draw
 drawBy l old = draw (l .answer .number) (countsOf (l .answer .values) old) (l .words) (l .seen) (l .points) (l .starts)
+
+-- a sheet written
+pub record Writing : Type 0 where
+  pub status : ℕ
+  pub counts : List ℕ
+  pub bytes : List ℕ
+
+abbrev pub writing : ℕ → List ℕ → List ℕ → Writing
+writing s ns bs = record { status = s; counts = ns; bytes = bs }
+
+abbrev pub writingBy : O.Left → List ℕ → Writing
+writingBy l old = writing (l .answer .number) (countsOf (l .answer .values) old) (l .bytes)
+
+-- a sheet read: points, starts, mode and vertices
+pub record Reading : Type 0 where
+  pub status : ℕ
+  pub counts : List ℕ
+  pub numbers : List ℕ
+  pub starts : List ℕ
+
+abbrev pub reading : ℕ → List ℕ → List ℕ → List ℕ → Reading
+reading s ns ps ss = record { status = s; counts = ns; numbers = ps; starts = ss }
+
+abbrev pub readingBy : R.Left → List ℕ → Reading
+readingBy l old = reading (l .answer .number) (countsOf (l .answer .values) old) (l .numbers) (l .starts)
