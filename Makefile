@@ -1,7 +1,7 @@
 # make test: all that the gate runs. Its last line is the verdict of `rt ci`, printed once everything else has passed.
 # make compare: ten million inputs to the port and to the original for each call (COUNT and SEED change that).
 # make bench: times of the port beside the original, written to docs/BENCHMARKS.md.
-# make rows: the stored rows that crates/replay is run on, made again.
+# make rows: the stored rows that crates/replay and crates/replay_meshes are run on, made again.
 .PHONY: test compare bench rows
 CALL ?= all
 COUNT ?= 10000000
@@ -21,3 +21,4 @@ bench:
 
 rows:
 	@($(run) rows) > crates/replay/stdin.new && mv crates/replay/stdin.new crates/replay/stdin
+	@($(run) rows -- meshes) > crates/replay_meshes/stdin.new && mv crates/replay_meshes/stdin.new crates/replay_meshes/stdin

@@ -6,7 +6,13 @@ use compare::rows;
 use std::path::Path;
 
 fn stored() -> String {
-    std::fs::read_to_string(Path::new(env!("CARGO_MANIFEST_DIR")).join("../../crates/replay/stdin")).unwrap()
+    stored_for("replay")
+}
+
+/// What a program is run on.
+fn stored_for(program: &str) -> String {
+    let crates = Path::new(env!("CARGO_MANIFEST_DIR")).join("../../crates");
+    std::fs::read_to_string(crates.join(program).join("stdin")).unwrap()
 }
 
 /// Whether a row is one of the arithmetic; those of the calls are replayed by the program alone.
@@ -50,7 +56,9 @@ fn a_damaged_answer_is_seen() {
 #[test]
 #[cfg(original)]
 fn the_stored_rows_are_the_makers() {
-    let made = std::process::Command::new(env!("CARGO_BIN_EXE_rows")).output().unwrap();
-    assert!(made.status.success());
-    assert_eq!(String::from_utf8(made.stdout).unwrap(), stored());
+    for (words, program) in [(&[][..], "replay"), (&["meshes"][..], "replay_meshes")] {
+        let made = std::process::Command::new(env!("CARGO_BIN_EXE_rows")).args(words).output().unwrap();
+        assert!(made.status.success());
+        assert_eq!(String::from_utf8(made.stdout).unwrap(), stored_for(program));
+    }
 }

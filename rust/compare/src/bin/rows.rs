@@ -1,4 +1,5 @@
-//! Makes the stored rows of the arithmetic and of the calls on lent lists: `rows > crates/replay/stdin`. The same rows each time.
+//! Makes the stored rows, the same each time: `rows > crates/replay/stdin` those of the arithmetic, of chop and of splice,
+//! `rows meshes > crates/replay_meshes/stdin` those of draw, weld and section.
 
 #[cfg(not(original))]
 fn main() {
@@ -10,7 +11,11 @@ fn main() {
 fn main() {
     use std::io::Write;
     let mut out = std::io::BufWriter::new(std::io::stdout().lock());
-    for line in made::rows().into_iter().chain(compare::call_rows::rows()) {
+    let lines = match std::env::args().nth(1).as_deref() {
+        Some("meshes") => compare::call_rows::mesh_rows(),
+        _ => made::rows().into_iter().chain(compare::call_rows::rows()).collect(),
+    };
+    for line in lines {
         writeln!(out, "{line}").unwrap();
     }
 }
