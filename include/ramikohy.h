@@ -84,6 +84,17 @@ uint32_t ramikohy_draw(const double *vertices, size_t vertices_len, const uint32
                        uint32_t *out_points, size_t out_points_len, uint32_t *out_starts, size_t out_starts_len,
                        size_t *point_count, size_t *start_count);
 
+/* Strokes of vertex numbers as a sheet, of a mode (1 triangles, 2 polygonal, 3 silhouette, and 0 is 1) and so many vertices. An
+ * empty stroke is not written. Output: the sheet's exact length, 24 bytes, and 4 for each stroke and for each point. */
+uint32_t ramikohy_write_sheet(uint32_t mode, uint32_t vertices, const uint32_t *numbers, size_t numbers_len,
+                              const uint32_t *starts, size_t starts_len, uint8_t *out, size_t out_len,
+                              size_t *byte_count);
+
+/* A sheet's strokes of vertex numbers, its mode and its vertices. Output: the points and strokes in its header. */
+uint32_t ramikohy_read_sheet(const uint8_t *bytes, size_t bytes_len, uint32_t *out_numbers, size_t out_numbers_len,
+                             uint32_t *out_starts, size_t out_starts_len, size_t *point_count, size_t *start_count,
+                             uint32_t *mode, uint32_t *vertices);
+
 #ifdef __cplusplus
 }
 #endif

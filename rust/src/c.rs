@@ -135,4 +135,27 @@ unsafe extern "C" {
         start_count: *mut usize,
         distance_count: *mut usize,
     ) -> u32;
+    pub fn ramikohy_write_sheet(
+        mode: u32,
+        vertices: u32,
+        numbers: *const u32,
+        numbers_len: usize,
+        starts: *const u32,
+        starts_len: usize,
+        out: *mut u8,
+        out_len: usize,
+        byte_count: *mut usize,
+    ) -> u32;
+    pub fn ramikohy_read_sheet(
+        bytes: *const u8,
+        bytes_len: usize,
+        out_numbers: *mut u32,
+        out_numbers_len: usize,
+        out_starts: *mut u32,
+        out_starts_len: usize,
+        point_count: *mut usize,
+        start_count: *mut usize,
+        mode: *mut u32,
+        vertices: *mut u32,
+    ) -> u32;
 }

@@ -4,10 +4,12 @@
 pub mod chop;
 pub mod chop_adaptive;
 pub mod draw;
+pub mod read_sheet;
 pub mod section;
 pub mod simplify;
 pub mod splice;
 pub mod weld;
+pub mod write_sheet;
 
 /// How many points and starts an accepted call wrote.
 #[derive(Debug, Clone, Copy, PartialEq, Eq, Default)]

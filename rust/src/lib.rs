@@ -27,10 +27,12 @@ mod vector;
 
 pub use calls::chop_adaptive::{View, chop_adaptive};
 pub use calls::draw::{Mode, Sight, draw};
+pub use calls::read_sheet::{Read, Sheet, read_sheet};
+pub use calls::write_sheet::write_sheet;
 pub use calls::{chop::chop, section::section, simplify::simplify, splice::splice, weld::weld};
 pub use matrix::Matrix;
 pub use mesh::{Mesh, Plane};
 pub use number::{abs, floor, sqrt};
 pub use refusal::Refusal;
-pub use strokes::Strokes;
+pub use strokes::{Strokes, strokes};
 pub use vector::Vector;

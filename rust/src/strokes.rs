@@ -33,9 +33,24 @@ impl<P> Strokes<P> {
 
     /// One stroke after the other.
     pub fn iter(&self) -> impl Iterator<Item = &[P]> {
-        let ends = self.starts.iter().skip(1).map(|&s| s as usize).chain([self.points.len()]);
-        self.starts.iter().zip(ends).map(|(&start, end)| &self.points[start as usize..end])
+        strokes(&self.points, &self.starts)
     }
+}
+
+/// One stroke after the other, each a part of the points, an empty one too. A start that passes the next one or the points is
+/// taken back to it, so every table has its strokes.
+///
+/// ```
+/// let points = [1, 0, 2, 1, 5];
+/// assert_eq!(ramikohy::strokes(&points, &[0, 4, 4]).collect::<Vec<_>>(), [[1, 0, 2, 1].as_slice(), &[], &[5]]);
+/// assert_eq!(ramikohy::strokes(&points, &[9, 3, 8]).collect::<Vec<_>>(), [[].as_slice(), &[1, 5], &[]]);
+/// ```
+pub fn strokes<'a, P>(points: &'a [P], starts: &'a [u32]) -> impl Iterator<Item = &'a [P]> {
+    let ends = starts.iter().skip(1).map(|&s| s as usize).chain([points.len()]);
+    starts.iter().zip(ends).map(|(&start, end)| {
+        let end = end.min(points.len());
+        &points[(start as usize).min(end)..end]
+    })
 }
 
 impl<'a, P: Clone + 'a> FromIterator<&'a [P]> for Strokes<P> {

@@ -95,7 +95,8 @@ fn header() -> Surface {
 
 #[test]
 fn the_three_languages_name_the_same_functions() {
-    let source = ["lib", "strokes", "meshes"].map(|file| read(&format!("crates/ramikohy/src/{file}.rt"))).concat();
+    let files = ["lib", "strokes", "meshes", "sheets"];
+    let source = files.map(|file| read(&format!("crates/ramikohy/src/{file}.rt"))).concat();
     let rattle = like_rust(&source, "pub extern \"C\" fn ", "\n    ensures");
     let rust = like_rust(&read("rust/src/c.rs"), "pub fn ", ";\n");
     assert_eq!(rattle.len(), source.matches("#[no_mangle]").count());
