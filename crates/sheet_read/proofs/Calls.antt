@@ -21,13 +21,14 @@ use Rattle.path.proofs.Gathers.{length-gather}
 use Rattle.mesh.specs.Meshes.{allBelow}
 use Rattle.sheet.specs.Sheets.{wordAt, modeIn, verticesIn, strokeCount, pointCount, startsIn, numbersIn, modeGood, countsGood, placesGood, tableGood, headerGood, isSheet}
 use Rattle.sheet_read.specs.Read.{roomFor, verdictOf, Left, left, leftBy}
-use Rattle.sheet_read.proofs.Loops.{limits}
+use Rattle.sheet.proofs.Sizes.{limits}
 
 pub header-limits : (bs : List ℕ) → headerGood bs ≡ true → (strokeCount bs ≤ mostStrokes) × (pointCount bs ≤ mostPoints)
 unfolding headerGood
 header-limits bs h =
     let b = both (modeGood (modeIn bs) && countsGood (verticesIn bs) (strokeCount bs) (pointCount bs)) (placesGood bs (strokeCount bs) (pointCount bs)) h in
-    limits (verticesIn bs) (strokeCount bs) (pointCount bs) (both (modeGood (modeIn bs)) (countsGood (verticesIn bs) (strokeCount bs) (pointCount bs)) (b .0) .1)
+    let l = limits (verticesIn bs) (strokeCount bs) (pointCount bs) (both (modeGood (modeIn bs)) (countsGood (verticesIn bs) (strokeCount bs) (pointCount bs)) (b .0) .1) in
+    (l .0, l .1)
 
 -- the tests of starts and numbers, by the words that the code has read
 module _ (bs : List ℕ) (s n : ℕ) (es : s ≡ strokeCount bs) (en : n ≡ pointCount bs) where

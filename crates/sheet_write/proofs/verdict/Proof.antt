@@ -7,7 +7,8 @@ use borrow.Author.Tests.{not-true, not-false}
 use Rattle.refusal.specs.Refusals.{unless}
 use Rattle.sheet_write.specs.Write.{verdictOf}
 use Rattle.sheet_write.proofs.Modes.{word-some}
-use Rattle.sheet_write.proofs.Calls.{limits, same-size}
+use Rattle.sheet.proofs.Sizes.{limits}
+use Rattle.sheet_write.proofs.Calls.{same-size}
 use borrow.Author.Needs.{needs}
 use Rattle.sheet_write.proofs.verdict.Statement.{statement}
 use Rattle.sheet_write.proofs.verdict.Tie as tie
