@@ -1,5 +1,5 @@
 -- The call as a whole: what its tests grant, what the parts come to, and its two returns. Assumes nothing.
-use mathlib.Core.Path.{_≡_, refl, sym, ap, _∙_}
+use mathlib.Core.Path.{_≡_, sym, ap, _∙_}
 use mathlib.Core.Bool.{true}
 use mathlib.Core.List.{List, [], _∷_, _++_}
 use Prim.Native.Nat.{ℕ, _+_, _*_, _≤_}
@@ -22,7 +22,7 @@ use Rattle.sheet.specs.Sheets.{bytesAll, headerOf, wordsOf, sheetOf, sizeOf, st
 use Rattle.sheet.proofs.Words.{put-more}
 use Rattle.sheet.proofs.Tables.{joined-all, kept-all, kept-count}
 use Rattle.sheet.proofs.Sizes.{limits}
-use Rattle.sheet_write.specs.Write.{verdictOf, Left, left, leftBy}
+use Rattle.sheet_write.specs.Write.{verdictOf, left, leftBy}
 
 -- how many strokes have points, as the definition counts them and as the code does
 pub same-size : (ns ss : List ℕ) (room : ℕ) → goodStarts (length ns) ss ≡ true

@@ -1,5 +1,4 @@
 -- Writing a sheet: when it is refused, what it answers, and what it leaves in the bytes lent to it.
-use mathlib.Core.Bool.{Bool}
 use mathlib.Core.List.{List, [], _∷_}
 use Prim.Native.Nat.{ℕ}
 use lib.ListN.{length}
