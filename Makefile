@@ -1,7 +1,7 @@
 # make test: all that the gate runs. Its last line is the verdict of `rt ci`, printed once everything else has passed.
 # make compare: ten million inputs to the port and to the original for each call (COUNT and SEED change that).
 # make bench: times of the port beside the original, written to docs/BENCHMARKS.md.
-# make rows: the stored rows that crates/replay and crates/replay_strokes are run on, made again.
+# make rows: the stored rows that crates/replay, replay_strokes and replay_meshes are run on, made again.
 .PHONY: test compare bench rows
 CALL ?= all
 COUNT ?= 10000000
@@ -22,3 +22,4 @@ bench:
 rows:
 	@($(run) rows) > crates/replay/stdin.new && mv crates/replay/stdin.new crates/replay/stdin
 	@($(run) rows -- strokes) > crates/replay_strokes/stdin.new && mv crates/replay_strokes/stdin.new crates/replay_strokes/stdin
+	@($(run) rows -- meshes) > crates/replay_meshes/stdin.new && mv crates/replay_meshes/stdin.new crates/replay_meshes/stdin

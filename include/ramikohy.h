@@ -76,6 +76,14 @@ uint32_t ramikohy_section(const double *vertices, size_t vertices_len, const uin
                           double *out_points, size_t out_points_len, uint32_t *out_starts, size_t out_starts_len,
                           size_t *point_count, size_t *start_count);
 
+/* The edges of a mesh that a mode keeps (1 triangles, 2 polygonal, 3 silhouette, and 0 is 1), as strokes of vertex numbers joined
+ * end to end. `flips` has two face numbers a pair. Scratch: 64 words and 4 numbers a face. Output: 6 points and 3 starts a face. */
+uint32_t ramikohy_draw(const double *vertices, size_t vertices_len, const uint32_t *indices, size_t indices_len,
+                       const uint32_t *flips, size_t flips_len, uint32_t mode, double cos_theta, const double eye[3],
+                       double tolerance, uint32_t *scratch, size_t scratch_len, double *seen, size_t seen_len,
+                       uint32_t *out_points, size_t out_points_len, uint32_t *out_starts, size_t out_starts_len,
+                       size_t *point_count, size_t *start_count);
+
 #ifdef __cplusplus
 }
 #endif

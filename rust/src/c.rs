@@ -81,6 +81,28 @@ unsafe extern "C" {
         point_count: *mut usize,
         start_count: *mut usize,
     ) -> u32;
+    pub fn ramikohy_draw(
+        vertices: *const f64,
+        vertices_len: usize,
+        indices: *const u32,
+        indices_len: usize,
+        flips: *const u32,
+        flips_len: usize,
+        mode: u32,
+        cos_theta: f64,
+        eye: *const [f64; 3],
+        tolerance: f64,
+        scratch: *mut u32,
+        scratch_len: usize,
+        seen: *mut f64,
+        seen_len: usize,
+        out_points: *mut u32,
+        out_points_len: usize,
+        out_starts: *mut u32,
+        out_starts_len: usize,
+        point_count: *mut usize,
+        start_count: *mut usize,
+    ) -> u32;
     pub fn ramikohy_chop_adaptive(
         points: *const f64,
         points_len: usize,

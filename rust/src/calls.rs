@@ -3,6 +3,7 @@
 
 pub mod chop;
 pub mod chop_adaptive;
+pub mod draw;
 pub mod section;
 pub mod simplify;
 pub mod splice;

@@ -16,6 +16,7 @@ use crate::c;
 
 pub use crate::calls::chop::lent as chop;
 pub use crate::calls::chop_adaptive::lent as chop_adaptive;
+pub use crate::calls::draw::lent as draw;
 pub use crate::calls::section::lent as section;
 pub use crate::calls::simplify::lent as simplify;
 pub use crate::calls::splice::lent as splice;

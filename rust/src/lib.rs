@@ -26,6 +26,7 @@ mod strokes;
 mod vector;
 
 pub use calls::chop_adaptive::{View, chop_adaptive};
+pub use calls::draw::{Mode, Sight, draw};
 pub use calls::{chop::chop, section::section, simplify::simplify, splice::splice, weld::weld};
 pub use matrix::Matrix;
 pub use mesh::{Mesh, Plane};

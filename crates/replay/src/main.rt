@@ -4,9 +4,6 @@
 // status is 0, the values' bits. Two NaN count as equal. A row that is no row of a function counts as one that differs.
 use libc::STDIN_FILENO;
 use libc::STDOUT_FILENO;
-use mesh_section::Plane;
-use mesh_section::Sectioned;
-use mesh_weld::Welded;
 use path_chop::Chopped;
 use path_splice::Spliced;
 use vector::Unit;
@@ -415,94 +412,11 @@ fn splice_agrees(page: &[u64; 256]) -> bool {
     }
 }
 
-fn weld_agrees(page: &[u64; 256]) -> bool {
-    let nc = size(page, 2);
-    let mut corners = [0.0; 96];
-    fill_real(page, 3, &mut corners[..]);
-    let mut scratch = [DIRT; 96];
-    let mut vertices = [GRIT; 96];
-    let mut indices = [DIRT; 96];
-    let answer = mesh_weld::weld(
-        &corners[..nc],
-        &mut scratch[..],
-        &mut vertices[..],
-        &mut indices[..],
-    );
-    let at = 3 + nc;
-    match answer {
-        Welded::Wrote {
-            vertices: v,
-            indices: i,
-        } => {
-            all(&scratch[..], 0)
-                && strokes_left(page, at, 0, v as u64, i as u64, &vertices[..], &indices[..])
-        }
-        Welded::Refused(why) => {
-            all(&scratch[..], DIRT)
-                && strokes_left(
-                    page,
-                    at,
-                    refusal::number(why) as u64,
-                    0,
-                    0,
-                    &vertices[..],
-                    &indices[..],
-                )
-        }
-    }
-}
-
-fn plane(page: &[u64; 256]) -> Plane {
-    Plane {
-        point: Vector::new(real(page[5]), real(page[6]), real(page[7])),
-        normal: Vector::new(real(page[8]), real(page[9]), real(page[10])),
-    }
-}
-
-fn section_agrees(page: &[u64; 256]) -> bool {
-    let nv = size(page, 2);
-    let ni = size(page, 3);
-    let mut vertices = [0.0; 96];
-    let mut indices = [0u32; 96];
-    fill_real(page, 11, &mut vertices[..]);
-    fill(page, 11 + nv, &mut indices[..]);
-    let mut out = [GRIT; 96];
-    let mut marks = [DIRT; 96];
-    let answer = mesh_section::section(
-        &vertices[..nv],
-        &indices[..ni],
-        plane(page),
-        real(page[4]),
-        &mut out[..],
-        &mut marks[..],
-    );
-    let at = 11 + nv + ni;
-    match answer {
-        Sectioned::Wrote {
-            points: p,
-            starts: s,
-        } => strokes_left(page, at, 0, p as u64, s as u64, &out[..], &marks[..]),
-        Sectioned::Refused(why) => {
-            strokes_left(
-                page,
-                at,
-                refusal::number(why) as u64,
-                0,
-                0,
-                &out[..],
-                &marks[..],
-            )
-        }
-    }
-}
-
 // Whether a row of a call agrees; a row of none does not.
 fn calls_agree(page: &[u64; 256]) -> bool {
     match page[0] {
         21 => chop_agrees(page),
         22 => splice_agrees(page),
-        23 => weld_agrees(page),
-        24 => section_agrees(page),
         _ => false,
     }
 }
@@ -547,7 +461,7 @@ fn bump(counts: &mut [u64; 32], function: usize)
 
 // One more row of a function, in the counts of rows or of those that differ.
 fn count(counts: &mut [u64; 32], function: u64) {
-    if function < 25 {
+    if function < 23 {
         bump(counts, function as usize);
     } else {
         bump(counts, 0);
@@ -605,10 +519,10 @@ fn read_rows(rows: &mut [u64; 32], differ: &mut [u64; 32]) {
 
 // The name of a function, out of all names with sixteen bytes each.
 fn print_name(function: usize)
-    requires { ⌜ function < 25 ⌝ }
+    requires { ⌜ function < 23 ⌝ }
 {
     let names: &[u8] =
-        b"no function     sqrt            floor           abs             length          distance        length_squared  distance_squareddot             cross           normalize       add             sub             mul             div             add_scalar      sub_scalar      mul_scalar      div_scalar      segment_distancemul_position_w  chop            splice          weld            section         ";
+        b"no function     sqrt            floor           abs             length          distance        length_squared  distance_squareddot             cross           normalize       add             sub             mul             div             add_scalar      sub_scalar      mul_scalar      div_scalar      segment_distancemul_position_w  chop            splice          ";
     let at = function * 16;
     print(&names[at..at + 16]);
 }
@@ -628,7 +542,7 @@ fn print_counts(rows: u64, differ: u64) {
 fn sum(counts: &[u64; 32]) -> u64 {
     let mut all: u64 = 0;
     let mut i = 0;
-    while i < 25 {
+    while i < 23 {
         all = std::num::wrapping_add_u64(all, counts[i]);
         i += 1;
     }
@@ -637,7 +551,7 @@ fn sum(counts: &[u64; 32]) -> u64 {
 
 fn print_rows(rows: &[u64; 32], differ: &[u64; 32]) {
     let mut function = 0;
-    while function < 25 {
+    while function < 23 {
         print_name(function);
         print_counts(rows[function], differ[function]);
         function += 1;

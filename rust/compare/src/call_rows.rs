@@ -1,16 +1,19 @@
 //! Stored rows of the calls on lent lists: an input, and what the rules and the original say that the call leaves, one to a
-//! line. The programs `replay` and `replay_strokes` work them out by the proved crates.
+//! line. The programs `replay`, `replay_strokes` and `replay_meshes` work them out by the proved crates.
 //!
 //! A row is words of hexadecimal digits with one space between: the call's number, the status, how many numbers each list of
 //! the input has, the other numbers, the lists and, where the status is 0, the counts and what was written. Every list that is
-//! lent has [`LENT`] elements.
+//! lent has [`LENT`] elements; a drawing's have their own lengths, [`DRAWN`].
 
 use crate::calls::strokes::bits;
-use crate::calls::{Left, Lent, adaptive, chop, section, simplify, splice, weld};
+use crate::calls::{Left, Lent, adaptive, chop, draw, section, simplify, splice, weld};
 use crate::random::Random;
 
 /// The elements of each list that a row's call is lent.
 pub const LENT: usize = 96;
+
+/// The words, numbers, points and starts that a drawing is lent: scratch for five faces, and room for four.
+const DRAWN: [usize; 4] = [330, 22, 27, 13];
 
 /// The most words that a row may have: what the programs hold.
 const MOST_WORDS: usize = 247;
@@ -18,12 +21,20 @@ const MOST_WORDS: usize = 247;
 /// How many rows each call has.
 const ROWS: usize = 300;
 
-/// Every row that `replay` is run on, the same each time.
+/// Every row of a call that `replay` is run on, the same each time.
 pub fn rows() -> Vec<String> {
     let mut random = Random::new(2);
     let mut all = Vec::new();
     all.extend(made(&mut random, chop_row));
     all.extend(made(&mut random, splice_row));
+    all
+}
+
+/// Every row that `replay_meshes` is run on, the same each time. They have numbers of their own.
+pub fn mesh_rows() -> Vec<String> {
+    let mut random = Random::new(4);
+    let mut all = Vec::new();
+    all.extend(made(&mut random, draw_row));
     all.extend(made(&mut random, weld_row));
     all.extend(made(&mut random, section_row));
     all
@@ -92,16 +103,34 @@ fn splice_row(random: &mut Random) -> Option<Vec<u64>> {
     row(22, &[input.points.len(), input.starts.len()], lists, &splice::judged(&input), 1)
 }
 
+/// None where two vertices have the same coordinates: the original's points have no numbers.
+fn draw_row(random: &mut Random) -> Option<Vec<u64>> {
+    let [words_lent, numbers, points, starts] = DRAWN;
+    let lent = Lent {
+        scratch: vec![7; words_lent],
+        numbers: vec![bits(9.0); numbers],
+        points: vec![7; points],
+        starts: vec![7; starts],
+    };
+    let input = draw::Input { lent, ..draw::make(random) };
+    let (sizes, left) = ([input.vertices.len(), input.indices.len(), input.flips.len()], draw::judged(&input));
+    let sight = [input.mode as u64, bits(input.cos_theta)].into_iter().chain(reals(&input.eye));
+    let sight = sight.chain([bits(input.tolerance)]);
+    let mesh = reals(&input.vertices).chain(words(&input.indices)).chain(words(&input.flips));
+    let told_apart = left.status != 0 || draw::all_apart(&input);
+    row(1, &sizes, sight.chain(mesh).collect(), &left, 1).filter(|_| told_apart)
+}
+
 fn weld_row(random: &mut Random) -> Option<Vec<u64>> {
     let input = weld::Input { lent: lent(bits(9.0)), ..weld::make(random) };
-    row(23, &[input.corners.len()], reals(&input.corners).collect(), &weld::judged(&input), 3)
+    row(2, &[input.corners.len()], reals(&input.corners).collect(), &weld::judged(&input), 3)
 }
 
 fn section_row(random: &mut Random) -> Option<Vec<u64>> {
     let input = section::Input { lent: lent(bits(9.0)), ..section::make(random) };
     let numbers = [bits(input.tolerance)].into_iter().chain(reals(&input.plane));
     let lists = numbers.chain(reals(&input.vertices)).chain(words(&input.indices)).collect();
-    row(24, &[input.vertices.len(), input.indices.len()], lists, &section::judged(&input), 3)
+    row(3, &[input.vertices.len(), input.indices.len()], lists, &section::judged(&input), 3)
 }
 
 fn simplify_row(random: &mut Random) -> Option<Vec<u64>> {

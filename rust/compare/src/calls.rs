@@ -86,6 +86,7 @@ pub const LINKED: &[Linked] = &[
     Linked { name: "simplify", run: simplify::run },
     Linked { name: "weld", run: weld::run },
     Linked { name: "section", run: section::run },
+    Linked { name: "draw", run: draw::run },
 ];
 
 /// Runs a call on the inputs that are tried always and on `count` random ones, and compares all that the port leaves.

@@ -20,6 +20,39 @@ impl Mesh {
     pub fn corners(&self) -> Vec<[f64; 3]> {
         self.faces.iter().flatten().map(|&v| self.vertices[v as usize]).collect()
     }
+
+    /// As many faces as this mesh has, by a rule on their number, on the vertices of a screw, no three of which lie on a line.
+    fn made(&self, count: u32, face: impl Fn(u32) -> [u32; 3]) -> Mesh {
+        let at = |v: u32| [(v as f64).cos(), (v as f64).sin(), v as f64 / 1024.0];
+        let faces = (0..self.faces.len() as u32).map(face).collect();
+        Mesh { vertices: (0..count).map(at).collect(), faces }
+    }
+
+    /// No vertex in two faces.
+    pub fn apart(&self) -> Mesh {
+        self.made(3 * self.faces.len() as u32, |f| [3 * f, 3 * f + 1, 3 * f + 2])
+    }
+
+    /// One vertex in every face.
+    pub fn fan(&self) -> Mesh {
+        self.made(self.faces.len() as u32 + 2, |f| [0, f + 1, f + 2])
+    }
+
+    /// One face over and over.
+    pub fn equal(&self) -> Mesh {
+        self.made(3, |_| [0, 1, 2])
+    }
+
+    /// Every choice of three of a few vertices, so that every edge has many faces.
+    pub fn shared(&self) -> Mesh {
+        let few = (self.faces.len() as f64).cbrt().ceil() as u32 + 2;
+        let other = |a: u32, k: u32| (a + 1 + k % (few - 2)) % few;
+        self.made(few, |f| {
+            let [a, b] = [f % few, other(f % few, f / few)];
+            let c = (0..few).map(|i| (f / few / (few - 2) + i) % few).find(|&c| c != a && c != b).unwrap();
+            [a, b, c]
+        })
+    }
 }
 
 /// A torus of `around` by `across` quads: 128 by 64 has 16,384 faces, 256 by 128 has 65,536.

@@ -179,6 +179,21 @@ fn every_splice_of_the_original_is_sound() {
     }
 }
 
+/// The edges that a plain reading of the rules keeps are those that the original draws.
+#[test]
+fn every_drawing_of_the_original_is_sound() {
+    let mut random = Random::new(6);
+    let mut accepted = 0;
+    for input in draw::all_small().chain((0..20_000).map(|_| draw::make(&mut random))) {
+        let left = draw::judged(&input);
+        if left.status == 0 && draw::all_apart(&input) {
+            assert!(draw::is_sound(&input, &left), "{input:?}");
+            accepted += 1;
+        }
+    }
+    assert!(accepted > 10_000);
+}
+
 /// The rules' walk of an adaptive cut, written apart, makes the original's points, for each tolerance that it is built for.
 #[test]
 fn the_walk_is_the_originals() {

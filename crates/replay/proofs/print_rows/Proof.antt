@@ -9,7 +9,7 @@ abbrev Inv-loop : tie.InvT-loop
 Inv-loop rows differ function₀ function = Unit {0}
 
 abbrev μ-loop : tie.MeasureT-loop
-μ-loop rows differ function₀ function = 25 - function
+μ-loop rows differ function₀ function = 23 - function
 
 loop-holds : tie.Need-loop-holds Inv-loop μ-loop
 loop-holds c = tt

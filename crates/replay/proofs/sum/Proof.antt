@@ -9,7 +9,7 @@ abbrev Inv-loop : tie.InvT-loop
 Inv-loop counts all₀ i₀ all i = Unit {0}
 
 abbrev μ-loop : tie.MeasureT-loop
-μ-loop counts all₀ i₀ all i = 25 - i
+μ-loop counts all₀ i₀ all i = 23 - i
 
 loop-holds : tie.Need-loop-holds Inv-loop μ-loop
 loop-holds c = tt

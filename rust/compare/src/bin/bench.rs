@@ -1,4 +1,5 @@
 //! `bench`: a table of times, port beside original, in Markdown on standard output. (`make bench` writes it to a file.)
+//! `bench WORD` times only the calls whose name begins with the word.
 
 #[cfg(not(original))]
 fn main() {
@@ -18,14 +19,17 @@ fn main() {
     println!("at 16,384 faces, a quarter. A call of the arithmetic is made once for each corner of each face.\n");
     println!("| call | port, ms | original, ms | port / original | growth |");
     println!("|---|---|---|---|---|");
-    for call in calls::CALLS {
+    let word = std::env::args().nth(1).unwrap_or_default();
+    for call in calls::CALLS.iter().filter(|call| call.name.starts_with(&word)) {
         println!("{}", compare::bench::time(call, RUNS).line());
     }
     println!("\n## Inputs made to hurt\n");
-    println!("As many edges as the torus has for a splice, as many corners for a weld; growth as above.\n");
+    println!(
+        "As many edges as the torus has for a splice, as many corners for a weld, as many faces for a drawing; growth as above.\n"
+    );
     println!("| call | port, ms | original, ms | port / original | growth |");
     println!("|---|---|---|---|---|");
-    for call in calls::WORST {
+    for call in calls::WORST.iter().filter(|call| call.name.starts_with(&word)) {
         println!("{}", compare::bench::time(call, RUNS).line());
     }
 }
@@ -38,7 +42,8 @@ mod calls {
     use compare::bench::{Call, best};
     use compare::torus::Mesh;
     use original::eps_1e9::{
-        matrix::Matrix, mesh, path::Paths, plane::Plane, shape::RenderArgs, triangle::Triangle, vector::Vector,
+        matrix::Matrix, mesh, mesh::MeshTexture, path::Paths, plane::Plane, shape::RenderArgs, shape::Shape,
+        triangle::Triangle, vector::Vector,
     };
     use ramikohy::lent;
     use std::hint::black_box;
@@ -54,6 +59,26 @@ mod calls {
         Call { name: "splice of all edges", port: splice_port, original: splice_original },
         Call { name: "weld", port: weld_port, original: weld_original },
         Call { name: "section", port: section_port, original: section_original },
+        Call {
+            name: "draw, triangles",
+            port: |mesh, runs| draw_of(mesh, TRIANGLES, &[], runs),
+            original: |mesh, runs| paths_of(mesh, TRIANGLES, &[], runs),
+        },
+        Call {
+            name: "draw, polygonal",
+            port: |mesh, runs| draw_of(mesh, POLYGONAL, &[], runs),
+            original: |mesh, runs| paths_of(mesh, POLYGONAL, &[], runs),
+        },
+        Call {
+            name: "draw, silhouette",
+            port: |mesh, runs| draw_of(mesh, SILHOUETTE, &[], runs),
+            original: |mesh, runs| paths_of(mesh, SILHOUETTE, &[], runs),
+        },
+        Call {
+            name: "draw, silhouette, a million flips",
+            port: |mesh, runs| draw_of(mesh, SILHOUETTE, &million(mesh), runs),
+            original: |mesh, runs| paths_of(mesh, SILHOUETTE, &million(mesh), runs),
+        },
     ];
 
     /// Edges and corners that a search by value or by cell would be slow on.
@@ -97,6 +122,66 @@ mod calls {
             name: "weld, nothing near anything",
             port: |mesh, runs| weld_of(&cluster(mesh, 1.0), runs),
             original: |mesh, runs| get_or_insert_of(&cluster(mesh, 1.0), runs),
+        },
+        Call {
+            name: "draw, triangles, one vertex in every face",
+            port: |mesh, runs| draw_of(&mesh.fan(), TRIANGLES, &[], runs),
+            original: |mesh, runs| paths_of(&mesh.fan(), TRIANGLES, &[], runs),
+        },
+        Call {
+            name: "draw, polygonal, one vertex in every face",
+            port: |mesh, runs| draw_of(&mesh.fan(), POLYGONAL, &[], runs),
+            original: |mesh, runs| paths_of(&mesh.fan(), POLYGONAL, &[], runs),
+        },
+        Call {
+            name: "draw, silhouette, one vertex in every face",
+            port: |mesh, runs| draw_of(&mesh.fan(), SILHOUETTE, &[], runs),
+            original: |mesh, runs| paths_of(&mesh.fan(), SILHOUETTE, &[], runs),
+        },
+        Call {
+            name: "draw, triangles, one face over and over",
+            port: |mesh, runs| draw_of(&mesh.equal(), TRIANGLES, &[], runs),
+            original: |mesh, runs| paths_of(&mesh.equal(), TRIANGLES, &[], runs),
+        },
+        Call {
+            name: "draw, polygonal, one face over and over",
+            port: |mesh, runs| draw_of(&mesh.equal(), POLYGONAL, &[], runs),
+            original: |mesh, runs| paths_of(&mesh.equal(), POLYGONAL, &[], runs),
+        },
+        Call {
+            name: "draw, silhouette, one face over and over",
+            port: |mesh, runs| draw_of(&mesh.equal(), SILHOUETTE, &[], runs),
+            original: |mesh, runs| paths_of(&mesh.equal(), SILHOUETTE, &[], runs),
+        },
+        Call {
+            name: "draw, triangles, many faces on every edge",
+            port: |mesh, runs| draw_of(&mesh.shared(), TRIANGLES, &[], runs),
+            original: |mesh, runs| paths_of(&mesh.shared(), TRIANGLES, &[], runs),
+        },
+        Call {
+            name: "draw, polygonal, many faces on every edge",
+            port: |mesh, runs| draw_of(&mesh.shared(), POLYGONAL, &[], runs),
+            original: |mesh, runs| paths_of(&mesh.shared(), POLYGONAL, &[], runs),
+        },
+        Call {
+            name: "draw, silhouette, many faces on every edge",
+            port: |mesh, runs| draw_of(&mesh.shared(), SILHOUETTE, &[], runs),
+            original: |mesh, runs| paths_of(&mesh.shared(), SILHOUETTE, &[], runs),
+        },
+        Call {
+            name: "draw, triangles, no vertex in two faces",
+            port: |mesh, runs| draw_of(&mesh.apart(), TRIANGLES, &[], runs),
+            original: |mesh, runs| paths_of(&mesh.apart(), TRIANGLES, &[], runs),
+        },
+        Call {
+            name: "draw, polygonal, no vertex in two faces",
+            port: |mesh, runs| draw_of(&mesh.apart(), POLYGONAL, &[], runs),
+            original: |mesh, runs| paths_of(&mesh.apart(), POLYGONAL, &[], runs),
+        },
+        Call {
+            name: "draw, silhouette, no vertex in two faces",
+            port: |mesh, runs| draw_of(&mesh.apart(), SILHOUETTE, &[], runs),
+            original: |mesh, runs| paths_of(&mesh.apart(), SILHOUETTE, &[], runs),
         },
     ];
 
@@ -345,6 +430,56 @@ mod calls {
         let corners: Vec<Vector> = corners.iter().map(|&[x, y, z]| Vector::new(x, y, z)).collect();
         best(runs, || {
             black_box(mesh::weld(&corners));
+        })
+    }
+
+    const TRIANGLES: ramikohy::Mode = ramikohy::Mode::Triangles;
+    const POLYGONAL: ramikohy::Mode = ramikohy::Mode::Polygonal;
+    const SILHOUETTE: ramikohy::Mode = ramikohy::Mode::Silhouette(0.0);
+
+    /// Where a drawing is seen from.
+    const EYE: [f64; 3] = [9.0, 6.0, 5.0];
+
+    /// A million flips, in no order, of faces that lie near each other.
+    fn million(mesh: &Mesh) -> Vec<[u32; 2]> {
+        let n = mesh.faces.len() as u32;
+        (0..1_000_000u64).map(|i| (i * 7919 % n as u64) as u32).map(|f| [f, f + 1]).collect()
+    }
+
+    fn draw_of(mesh: &Mesh, mode: ramikohy::Mode, flips: &[[u32; 2]], runs: usize) -> f64 {
+        let (vertices, indices) = (mesh.vertices.as_flattened(), mesh.faces.as_flattened());
+        let faces = mesh.faces.len();
+        let (mut scratch, mut seen) = (vec![0; 64 * faces], vec![0.0; 4 * faces]);
+        let (mut points, mut starts) = (vec![0; 6 * faces], vec![0; 3 * faces]);
+        let sight = ramikohy::Sight { mode: mode.number(), cos_theta: mode.cos_theta(), eye: EYE, tolerance: 1e-9 };
+        let flips = flips.as_flattened();
+        best(runs, || {
+            lent::draw(vertices, indices, flips, &sight, &mut scratch, &mut seen, &mut points, &mut starts).unwrap();
+            black_box((&mut points, &mut starts));
+        })
+    }
+
+    fn paths_of(mesh: &Mesh, mode: ramikohy::Mode, flips: &[[u32; 2]], runs: usize) -> f64 {
+        let vector = |[x, y, z]: [f64; 3]| Vector::new(x, y, z);
+        let vertices = mesh.vertices.iter().map(|&p| vector(p)).collect();
+        let indices = mesh.faces.as_flattened().iter().map(|&v| v as usize).collect();
+        let flips = flips.iter().map(|&[a, b]| (a as usize, b as usize)).collect();
+        let texture = match mode {
+            ramikohy::Mode::Triangles => MeshTexture::Triangles,
+            ramikohy::Mode::Polygonal => MeshTexture::Polygonal,
+            ramikohy::Mode::Silhouette(cos_theta) => MeshTexture::Silhouette(cos_theta),
+        };
+        let mesh = mesh::Mesh::builder(vertices, indices).flipped_triangles(flips).texture(texture).build();
+        let args = RenderArgs {
+            screen_mat: Matrix::identity(),
+            eye: vector(EYE),
+            up: Vector::default(),
+            width: 0.0,
+            height: 0.0,
+            step: 0.0,
+        };
+        best(runs, || {
+            black_box(mesh.paths(&args));
         })
     }
 

@@ -1,5 +1,6 @@
-//! Makes the stored rows, the same each time: `rows > crates/replay/stdin` those of the arithmetic and of most calls on lent
-//! lists, `rows strokes > crates/replay_strokes/stdin` those of simplify and chop_adaptive.
+//! Makes the stored rows, the same each time: `rows > crates/replay/stdin` those of the arithmetic, of chop and of splice,
+//! `rows strokes > crates/replay_strokes/stdin` those of simplify and chop_adaptive, `rows meshes > crates/replay_meshes/stdin`
+//! those of draw, weld and section.
 
 #[cfg(not(original))]
 fn main() {
@@ -11,9 +12,12 @@ fn main() {
 fn main() {
     use std::io::Write;
     let mut out = std::io::BufWriter::new(std::io::stdout().lock());
-    let strokes = std::env::args().nth(1).is_some_and(|word| word == "strokes");
-    let most = || made::rows().into_iter().chain(compare::call_rows::rows()).collect();
-    for line in if strokes { compare::call_rows::stroke_rows() } else { most() } {
+    let lines = match std::env::args().nth(1).as_deref() {
+        Some("strokes") => compare::call_rows::stroke_rows(),
+        Some("meshes") => compare::call_rows::mesh_rows(),
+        _ => made::rows().into_iter().chain(compare::call_rows::rows()).collect(),
+    };
+    for line in lines {
         writeln!(out, "{line}").unwrap();
     }
 }

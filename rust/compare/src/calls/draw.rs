@@ -5,7 +5,9 @@ use super::strokes::bits;
 use super::{Left, Lent, dirty, room};
 use crate::random::Random;
 use crate::reading::{self, View};
-use std::collections::HashMap;
+use crate::runs::Seen;
+use crate::torus;
+use std::collections::{BTreeMap, HashMap, HashSet};
 
 #[derive(Clone, Debug)]
 pub struct Input {
@@ -19,22 +21,133 @@ pub struct Input {
     pub lent: Lent<u32>,
 }
 
-/// A random input.
+/// A random input: squares, books and any meshes, with faces over again; an eye in a face's plane now and then.
 pub fn make(random: &mut Random) -> Input {
-    let (vertices, indices) = if random.once_in(3) { mesh::square(random) } else { mesh::make(random) };
+    let (vertices, mut indices) = match random.below(3) {
+        0 => mesh::square(random),
+        1 => mesh::book(random),
+        _ => mesh::make(random),
+    };
+    if random.once_in(2) {
+        mesh::worn(random, &mut indices);
+    }
     let faces = indices.len() / 3;
-    let mut flips: Vec<u32> = (0..random.below(4) * 2).map(|_| random.below(faces + 2) as u32).collect();
+    let flips = flips(random, faces);
+    let mode = mostly(random, 4, &[0.0, 1.0, 2.0, 3.0, 4.0, 4294967295.0]) as u32;
+    let cos_theta = mostly(random, 10, &COSINES);
+    let eye = eye(random, &vertices, &indices);
+    let tolerance = mostly(random, 3, &[1e-9, 1e-6, 0.25, 0.0, 1.0, f64::NAN]);
+    let tight = random.once_in(3);
+    let mut length = |need| if tight { room(random, need) } else { need + random.below(5) };
+    let [words, numbers, points, starts] = [64 * faces, 4 * faces, 6 * faces, 3 * faces].map(&mut length);
+    let mut lent = dirty(random, [words, points, starts], |word| word as u32);
+    lent.numbers = (0..numbers).map(|_| random.bits()).collect();
+    Input { vertices, indices, flips, mode, cos_theta, eye, tolerance, lent }
+}
+
+/// Cosines of both signs, those of faces that meet at 45 and at 60 degrees, and what is none.
+const COSINES: [f64; 11] = [
+    0.0,
+    1.0,
+    -1.0,
+    0.5,
+    -0.0,
+    std::f64::consts::FRAC_1_SQRT_2,
+    0.9999999999999999,
+    f64::MIN_POSITIVE,
+    f64::INFINITY,
+    f64::NEG_INFINITY,
+    f64::NAN,
+];
+
+/// Flips of every kind: the smaller face first or the larger, a face twice, faces that there are not, few or many, pairs over again,
+/// and now and then a list that is not of pairs.
+fn flips(random: &mut Random, faces: usize) -> Vec<u32> {
+    let pairs = if random.once_in(12) { random.below(200) } else { random.below(4) };
+    let mut flips: Vec<u32> = (0..pairs * 2).map(|_| random.below(faces + 1) as u32).collect();
+    if random.once_in(2) {
+        flips.chunks_exact_mut(2).for_each(|pair| pair.sort_unstable());
+    }
+    if random.once_in(6) && !flips.is_empty() {
+        let at = random.below(flips.len());
+        flips[at] = random.one_of(&[faces as u32, 65_535, 65_536, u32::MAX]);
+    }
+    if random.once_in(6) {
+        flips.extend_from_within(..);
+    }
     if random.once_in(24) {
         flips.push(0);
     }
-    let mode = mostly(random, 4, &[0.0, 1.0, 2.0, 3.0, 4.0]) as u32;
-    let cos_theta = mostly(random, 5, &[0.0, 1.0, -1.0, 0.5, f64::INFINITY, f64::NAN]);
-    let eye = [(); 3].map(|()| mostly(random, 4, &[0.0, 5.0, -3.0, 0.5, f64::NAN, 1048577.0]));
-    let tolerance = mostly(random, 3, &[1e-9, 1e-6, 0.25, 0.0, 1.0, f64::NAN]);
-    let lengths = [64 * faces, 6 * faces, 3 * faces].map(|n| room(random, n));
-    let mut lent = dirty(random, lengths, |word| word as u32);
-    lent.numbers = (0..room(random, 4 * faces)).map(|_| random.bits()).collect();
+    flips
+}
+
+/// An eye: some place, or one in the plane of a face, its corners too.
+fn eye(random: &mut Random, vertices: &[f64], indices: &[u32]) -> [f64; 3] {
+    let face = random.below(1 + indices.len() / 3) * 3;
+    let corners = [face, face + 1, face + 2].map(|at| mesh::corner(vertices, indices, at));
+    let (true, [Some(a), Some(b), Some(c)]) = (random.once_in(3), corners) else {
+        return [(); 3].map(|()| mostly(random, 4, &[0.0, 5.0, -3.0, 0.5, f64::NAN, 1048576.0, 1048577.0]));
+    };
+    let [s, t] = [(); 2].map(|()| random.one_of(&[0.0, 1.0, 0.5, -1.0, 2.0]));
+    [0, 1, 2].map(|i| a[i] + (b[i] - a[i]) * s + (c[i] - a[i]) * t)
+}
+
+/// A mesh, with just the room that it needs and something in it, drawn in a mode.
+pub fn of_mesh(vertices: &[f64], indices: &[u32], flips: &[u32], mode: u32) -> Input {
+    let faces = indices.len() / 3;
+    let (cos_theta, eye, tolerance) = (0.3, [5.0, 4.0, 3.0], 1e-9);
+    let lent = Lent {
+        scratch: vec![7; 64 * faces],
+        numbers: vec![7; 4 * faces],
+        points: vec![5; 6 * faces],
+        starts: vec![9; 3 * faces],
+    };
+    let (vertices, indices, flips) = (vertices.to_vec(), indices.to_vec(), flips.to_vec());
     Input { vertices, indices, flips, mode, cos_theta, eye, tolerance, lent }
+}
+
+/// Every mesh of up to two faces on four vertices that lie in no plane, in each mode, with a flip and without.
+pub fn all_small() -> impl Iterator<Item = Input> {
+    let vertices = [0.0, 0.0, 0.0, 1.0, 0.0, 0.0, 0.0, 1.0, 0.0, 0.0, 0.0, 1.0];
+    let faces: Vec<Vec<u32>> = (0..64).map(|k| vec![k / 16, k / 4 % 4, k % 4]).collect();
+    let two = |one: &Vec<u32>| faces.iter().map(|other| [&one[..], other].concat()).collect::<Vec<_>>();
+    let lists: Vec<Vec<u32>> = [vec![], faces.clone(), faces.iter().flat_map(two).collect()].concat();
+    let ways = (0..4).flat_map(|mode| [(mode, &[][..]), (mode, &[0, 1][..])]);
+    ways.flat_map(move |(mode, flips)| {
+        lists.clone().into_iter().map(move |list| of_mesh(&vertices, &list, flips, mode))
+    })
+}
+
+/// Large meshes in each mode: the torus with the most faces that a call takes and with one more, its faces apart (the most vertices),
+/// a fan around one vertex, one face over and over, every edge with many faces; and one vertex more than a call takes.
+fn large() -> impl Iterator<Item = Input> {
+    let torus = torus::wavy(256, 128);
+    let over = [&torus.faces[..], &torus.faces[..1]].concat();
+    let (apart, fan, equal, shared) = (torus.apart(), torus.fan(), torus.equal(), torus.shared());
+    let mut past = apart.vertices.clone();
+    past.push([0.0; 3]);
+    let same = torus::Mesh { vertices: torus.vertices.clone(), faces: over };
+    let past = torus::Mesh { vertices: past, faces: apart.faces.clone() };
+    [torus, same, apart, past, fan, equal, shared].into_iter().flat_map(|mesh| {
+        let flips: Vec<u32> = (0..65_535).flat_map(|f| [f, f + 1]).collect();
+        let of = move |mode| of_mesh(mesh.vertices.as_flattened(), mesh.faces.as_flattened(), &flips, mode);
+        (1..4).map(of)
+    })
+}
+
+/// One face with a word, a number, a point or a start too few in each mode, and with all that it needs at its limits.
+fn at_limits() -> impl Iterator<Item = Input> {
+    let most = 1048576.0;
+    let vertices = [most, -most, 0.0, -most, most, -0.0, most, most, most];
+    (0..4).flat_map(move |mode| {
+        let whole = Input { eye: [-most; 3], ..of_mesh(&vertices, &[0, 1, 2], &[], mode) };
+        let mut short = [(); 5].map(|()| whole.clone());
+        short[0].lent.scratch.pop();
+        short[1].lent.numbers.pop();
+        short[2].lent.points.pop();
+        short[3].lent.starts.pop();
+        short
+    })
 }
 
 /// The first vertex that has the coordinates of each: the original's points have no numbers, so vertices are told apart
@@ -110,4 +223,75 @@ fn drawn(input: &Input) -> Vec<Vec<u32>> {
         Some(2) => drawn!(eps_quarter),
         _ => drawn!(eps_1e9),
     }
+}
+
+/// The edges that the rules keep, a stroke of two each, worked out apart from the original's drawings: its vectors alone are used.
+fn kept(input: &Input) -> Vec<Vec<u32>> {
+    let mut groups: BTreeMap<(u32, u32), Vec<usize>> = BTreeMap::new();
+    for (face, f) in input.indices.chunks_exact(3).enumerate() {
+        for (a, b) in [(f[0], f[1]), (f[1], f[2]), (f[2], f[0])] {
+            groups.entry((a.min(b), a.max(b))).or_default().push(face);
+        }
+    }
+    let keeps = keeper(input);
+    groups.into_iter().filter(|(_, faces)| keeps(faces)).map(|((a, b), _)| vec![a, b]).collect()
+}
+
+/// Which faces around an edge have it kept.
+fn keeper(input: &Input) -> impl Fn(&[usize]) -> bool {
+    use original::eps_1e9::vector::Vector;
+    let at = |v: u32| {
+        let p = &input.vertices[v as usize * 3..][..3];
+        Vector::new(p[0], p[1], p[2])
+    };
+    let normal = |f: &[u32]| at(f[1]).sub(at(f[0])).cross(at(f[2]).sub(at(f[0]))).normalize().normalize();
+    let eye = Vector::new(input.eye[0], input.eye[1], input.eye[2]);
+    let seen = |f: &[u32]| (normal(f), normal(f).dot(eye.sub(at(f[0]))));
+    let needs = input.mode >= 2;
+    let faces: Vec<(Vector, f64)> = input.indices.chunks_exact(3).filter(|_| needs).map(seen).collect();
+    let flips: HashSet<(usize, usize)> =
+        input.flips.chunks_exact(2).map(|pair| (pair[0] as usize, pair[1] as usize)).collect();
+    let (mode, cos_theta, tolerance) = (input.mode, input.cos_theta, input.tolerance);
+    move |group| match (mode, group) {
+        (0 | 1, _) | (2, [_]) => true,
+        (2, [first, later @ ..]) => later.iter().any(|&f| faces[*first].0.dot(faces[f].0).abs() < 1.0 - tolerance),
+        (_, &[a, b]) => {
+            let ((n1, dot1), (n2, dot2)) = (faces[a], faces[b]);
+            let edgy = cos_theta > 0.0 && !(n1.dot(n2).abs() > cos_theta);
+            let flipped = flips.contains(&(a.min(b), a.max(b)));
+            edgy || if flipped { dot1 * dot2 >= 0.0 } else { dot1 * dot2 <= 0.0 }
+        }
+        _ => true,
+    }
+}
+
+/// What must hold of every accepted drawing: each kept edge is drawn exactly once, no other is, and a vertex ends one open
+/// stroke if an odd number of kept edges end there, and none otherwise; so fewer open strokes there cannot be.
+pub fn is_sound(input: &Input, left: &Left<u32>) -> bool {
+    super::splice::joins(&kept(input), left)
+}
+
+/// Whether no two vertices have the same coordinates, so that the original's points are known by number.
+pub fn all_apart(input: &Input) -> bool {
+    named(&input.vertices).len() == input.vertices.len() / 3
+}
+
+/// What the port leaves, its vertices named as the judge names them. What must hold of every accepted drawing is asked of it first.
+fn port(input: &Input) -> Left<u32> {
+    let Input { mode, cos_theta, eye, tolerance, .. } = *input;
+    let sight = ramikohy::Sight { mode, cos_theta, eye, tolerance };
+    let mut lent = input.lent.clone();
+    let mut seen = super::numbers(&lent.numbers);
+    let Lent { scratch, points, starts, .. } = &mut lent;
+    let Input { vertices, indices, flips, .. } = input;
+    let answer = ramikohy::lent::draw(vertices, indices, flips, &sight, scratch, &mut seen, points, starts);
+    lent.numbers = seen.iter().map(|x| x.to_bits()).collect();
+    let left = super::left(answer.map(|wrote| [wrote.points, wrote.starts]), lent);
+    assert!(left.status != 0 || is_sound(input, &left), "{input:?}");
+    renamed(input, left)
+}
+
+/// Runs the port beside the original.
+pub fn run(count: u64, seed: u64) -> Seen {
+    super::run(all_small().chain(at_limits()).chain(large()), make, judged, port, (count, seed))
 }

@@ -29,6 +29,40 @@ pub fn square(random: &mut Random) -> (Vec<f64>, Vec<u32>) {
     (vertices, faces[..random.one_of(&[2, 4])].concat())
 }
 
+/// Faces around one edge, so that it has three faces and more.
+pub fn book(random: &mut Random) -> (Vec<f64>, Vec<u32>) {
+    let pages = 1 + random.below(5);
+    let mut vertices = vec![0.0, 0.0, 0.0, 0.0, 0.0, 1.0];
+    for _ in 0..pages {
+        vertices.extend([random.below(3), random.below(3), random.below(2)].map(|k| k as f64 - 1.0));
+    }
+    let turned = |page: u32| random.one_of(&[[0, 1, page], [1, 0, page], [page, 0, 1], [1, page, 0]]);
+    (vertices, (2..2 + pages as u32).flat_map(turned).collect())
+}
+
+/// Some faces over again, in another order of their corners; and now and then a face with a corner twice.
+pub fn worn(random: &mut Random, indices: &mut Vec<u32>) {
+    let faces = indices.len() / 3;
+    if faces == 0 || !indices.len().is_multiple_of(3) {
+        return;
+    }
+    for _ in 0..random.below(3) {
+        let f = random.below(faces) * 3;
+        let [a, b, c] = [indices[f], indices[f + 1], indices[f + 2]];
+        indices.extend(random.one_of(&[[a, b, c], [b, c, a], [c, b, a]]));
+    }
+    if random.once_in(6) {
+        let at = random.below(indices.len());
+        indices[at] = indices[at / 3 * 3 + random.below(3)];
+    }
+}
+
+/// A corner of a good mesh, by its place in the list of indices.
+pub fn corner(vertices: &[f64], indices: &[u32], at: usize) -> Option<[f64; 3]> {
+    let from = *indices.get(at)? as usize * 3;
+    vertices.get(from..from + 3)?.try_into().ok()
+}
+
 /// A number that is mostly one of the first `good` of a list.
 pub fn mostly(random: &mut Random, good: usize, list: &[f64]) -> f64 {
     let among = if random.once_in(12) { list.len() } else { good };

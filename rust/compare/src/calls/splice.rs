@@ -83,12 +83,16 @@ pub fn judged(input: &Input) -> Left<u32> {
 /// What must hold of every accepted splice: each pair of neighbours is drawn as often as before, and a vertex ends one open
 /// stroke if an odd number of strokes' ends met there, and none otherwise; so fewer open strokes there cannot be.
 pub fn is_sound(input: &Input, left: &Left<u32>) -> bool {
-    let before = split(&input.points, &input.starts, 1);
+    joins(&split(&input.points, &input.starts, 1), left)
+}
+
+/// The same of strokes that were joined to what an accepted call left.
+pub fn joins(before: &[Vec<u32>], left: &Left<u32>) -> bool {
     let [points, starts] = [left.counts[0], left.counts[1]];
     let after = split(&left.lent.points[..points], &left.lent.starts[..starts], 1);
-    let odd: Vec<u32> = ends(&before).into_iter().filter(|(_, n)| n % 2 == 1).map(|(v, _)| v).collect();
+    let odd: Vec<u32> = ends(before).into_iter().filter(|(_, n)| n % 2 == 1).map(|(v, _)| v).collect();
     let open = ends(&after);
-    pairs(&before) == pairs(&after) && open.values().all(|&n| n == 1) && open.keys().copied().eq(odd)
+    pairs(before) == pairs(&after) && open.values().all(|&n| n == 1) && open.keys().copied().eq(odd)
 }
 
 /// How often each undirected pair of neighbours is drawn.
