@@ -1,7 +1,7 @@
 # make test: all that the gate runs. Its last line is the verdict of `rt ci`, printed once everything else has passed.
 # make compare: ten million inputs to the port and to the original for each call (COUNT and SEED change that).
 # make bench: times of the port beside the original, written to docs/BENCHMARKS.md.
-# make rows: the stored rows that crates/replay, crates/replay_strokes and crates/replay_meshes are run on, made again.
+# make rows: the stored rows that crates/replay, replay_strokes and replay_meshes are run on, made again.
 .PHONY: test compare bench rows
 CALL ?= all
 COUNT ?= 10000000

@@ -13,6 +13,7 @@ use refusal::Refusal;
 use refusal::Verdict;
 use vector::Vector;
 use vector::number::root_exceeds;
+use vector::number::root_or_nan;
 ghost use mathlib.Core.Path.{_≡_};
 ghost use mathlib.Core.List.{map};
 ghost use Prim.Native.Nat.{_+_, _-_, _/_, _≤_, _<_};
@@ -50,6 +51,33 @@ fn count_steps(s: f64, step: f64) -> usize
         }
     }
     n
+}
+
+// The same by the length l.
+fn count_to(l: f64, step: f64) -> usize
+    ensures { λ r. ⌜ (r ≡ length (stepsOf tooMany l step step)) × (r ≤ tooMany) ⌝ }
+{
+    let mut n = 0;
+    let mut d = step;
+    while n < TOO_MANY {
+        if d < l {
+            n += 1;
+            d = d + step;
+        } else {
+            return n;
+        }
+    }
+    n
+}
+
+// The same: by the length where the step is so small that its square has few digits, so that one root serves all steps.
+fn count_span(s: f64, step: f64) -> usize
+    ensures { λ r. ⌜ (r ≡ length (stepsOf tooMany (orNan (rootOf s)) step step)) × (r ≤ tooMany) ⌝ }
+{
+    if step < 1e-140 {
+        return count_to(root_or_nan(s), step);
+    }
+    count_steps(s, step)
 }
 
 // Writes the points within a span of length l along v from a.
@@ -218,7 +246,7 @@ fn count_spans(points: &[f64], i: usize, e: usize, first: Vector, step: f64, so_
             return TOO_MANY;
         }
         let q = point_at(points, j);
-        n = n + count_steps(q.sub(p).length_squared(), step) + 1;
+        n = n + count_span(q.sub(p).length_squared(), step) + 1;
         p = q;
         j += 1;
     }

@@ -1,16 +1,15 @@
 -- The parts that are handed out are the strokes of the table. Assumes nothing.
 use mathlib.Core.Path.{_≡_, refl, sym, ap, _∙_}
 use mathlib.Core.Logic.{_⊎_, inl, inr}
-use mathlib.Core.Bool.{true, _&&_}
+use mathlib.Core.Bool.{true}
 use mathlib.Core.List.{List, [], _∷_}
 use Prim.Native.Nat.{ℕ, zero, suc, _+_, _-_, _*_, _≤_, _<_}
 use native.Mathlib.Omega.{arith}
-use native.Mathlib.Numerals.{add-one}
 use native.Mathlib.Nat.{add-zero}
-use lib.ListN.{length, getD, take, drop, length-drop, drop-of-length-le, List·getD-eq-default}
-use lib.Seq.{drop-cons, drop-drop, getD-drop, take-all, take-nil}
-use lib.Dec.{leb, ltb, eqb}
-use borrow.Author.Tests.{leb-true, eqb-true, lt-ltb, le-ltb}
+use lib.ListN.{length, getD, take, drop, length-drop, drop-of-length-le}
+use lib.Seq.{drop-drop, getD-drop, take-all, take-nil}
+use lib.Dec.{ltb, eqb}
+use borrow.Author.Tests.{eqb-true, lt-ltb, le-ltb}
 use Rattle.path.specs.Strokes.{goodFrom, goodStarts, gather, strokesOf, numberAt}
 use Rattle.path.proofs.Tests.{both, split}
 use Rattle.path.proofs.Gathers.{gather-drop}

@@ -6,20 +6,18 @@ use mathlib.Core.List.{List, [], _∷_, _++_, append-nil, append-assoc}
 use Prim.Native.Nat.{ℕ, zero, suc, _+_, _-_, _*_, _/_, _%_, _≤_, _<_}
 use native.Mathlib.Omega.{arith}
 use native.Mathlib.Numerals.{add-one}
-use native.Mathlib.Nat.{add-zero}
 use lib.ListN.{length, getD, take, drop, length-append}
 use lib.Seq.{take-at, drop-at}
 use lib.Dec.{leb, ltb, eqb}
-use borrow.Author.Tests.{leb-true, ltb-true, eqb-true, lt-ltb, le-leb, eq-eqb}
+use borrow.Author.Tests.{leb-true, ltb-true, eqb-true, lt-ltb, eq-eqb}
 use Rattle.refusal.specs.Limits.{mostVertices, mostStrokes, mostPoints}
-use Rattle.path.specs.Strokes.{goodFrom, goodStarts, gather, strokesOf, numberAt}
+use Rattle.path.specs.Strokes.{gather, numberAt}
 use Rattle.path.specs.Laid.{nonEmpty, joined, startsFrom}
 use Rattle.path.proofs.Tests.{both}
 use Rattle.path.proofs.Gathers.{length-gather, gather-drop}
 use Rattle.path.proofs.Pushes.{length-starts}
 use Rattle.mesh.specs.Meshes.{allBelow}
 use Rattle.sheet.specs.Sheets.{bytesOf, bytesAll, wordAt, headerOf, wordsOf, sheetOf, sizeOf, strokesIn, modeIn, verticesIn, strokeCount, pointCount, startsIn, numbersIn, modeGood, countsGood, placesGood, strictFrom, tableGood, headerGood, isSheet}
-use Rattle.sheet.proofs.Words.{length-bytes}
 use Rattle.sheet.proofs.Sizes.{words-size}
 use Rattle.sheet.proofs.Tables.{gather-add, gather-all, joined-all, joined-kept, kept-all, table-good, table-starts, strokes-again}
 

@@ -46,6 +46,7 @@ sizeOf strokes points = 24 + 4 * strokes + 4 * points
 
 -- ---- what is read
 
+-- the header's words: mode, vertices, strokes, points
 abbrev pub modeIn : List ℕ → ℕ
 modeIn bs = wordAt bs 0
 
@@ -77,6 +78,7 @@ countsGood vertices strokes points = leb vertices mostVertices && leb strokes mo
 unfoldable pub placesGood : List ℕ → ℕ → ℕ → Bool
 placesGood bs strokes points = eqb (wordAt bs 4) 24 && eqb (wordAt bs 5) (24 + 4 * strokes) && eqb (length bs) (sizeOf strokes points)
 
+-- a header that fits the bytes
 unfoldable pub headerGood : List ℕ → Bool
 headerGood bs = modeGood (modeIn bs) && countsGood (verticesIn bs) (strokeCount bs) (pointCount bs) && placesGood bs (strokeCount bs) (pointCount bs)
 

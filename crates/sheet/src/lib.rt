@@ -1,9 +1,12 @@
-// What writing and reading a sheet share: words in bytes, the lowest byte first.
+// What writing and reading a sheet share: words in bytes, the lowest byte first, and the limits of counts.
+use refusal::MOST_POINTS;
+use refusal::MOST_STROKES;
+use refusal::MOST_VERTICES;
 ghost use mathlib.Core.Path.{_≡_};
 ghost use Prim.Native.Nat.{_*_, _<_};
 ghost use lib.ListN.{getD, set};
 ghost use lib.Seq.{sets};
-ghost use Rattle.sheet.specs.Sheets.{bytesOf, wordAt};
+ghost use Rattle.sheet.specs.Sheets.{bytesOf, wordAt, countsGood};
 
 // The byte at place i, 0 past the end.
 fn byte_at(bytes: &[u8], i: usize) -> u32
@@ -51,4 +54,17 @@ pub fn put_word(out: &mut [u8], k: usize, w: u32)
         put_byte(out, i + 2, (w / 256 / 256 % 256) as u8);
         put_byte(out, i + 3, (w / 256 / 256 / 256 % 256) as u8);
     }
+}
+
+// Whether vertices, strokes and points are within their limits.
+pub fn counts_good(vertices: usize, strokes: usize, points: usize) -> bool
+    ensures { λ r. ⌜ r ≡ countsGood vertices strokes points ⌝ }
+{
+    if MOST_VERTICES < vertices {
+        return false;
+    }
+    if MOST_STROKES < strokes {
+        return false;
+    }
+    points <= MOST_POINTS
 }

@@ -1,6 +1,5 @@
 -- Digits, numbers and lines written one after the other. Assumes nothing.
-use mathlib.Core.Path.{_≡_, refl, sym, ap, _∙_}
-use mathlib.Core.Bool.{true, false}
+use mathlib.Core.Path.{_≡_, sym, ap, _∙_}
 use mathlib.Core.List.{List, [], _∷_, _++_}
 use Prim.Native.Nat.{ℕ, zero, suc, _+_, _-_, _*_, _/_, _%_, _≤_, _<_}
 use native.Mathlib.Omega.{arith}
@@ -15,7 +14,7 @@ use Rattle.path.specs.Laid.{Pen, pen, inked}
 use Rattle.path.proofs.Points.{numbers-lie}
 use Rattle.path.proofs.Pushes.{ink-none, ink-append}
 use Rattle.path.proofs.Gathers.{gather-more, gather-none, length-gather}
-use Rattle.sheet_list.specs.Listing.{topFrom, digitsFrom, decimal, spaced, lineOf, linesOf, refusedText}
+use Rattle.sheet_list.specs.Listing.{topFrom, digitsFrom, decimal, spaced, lineOf, refusedText}
 use Rattle.sheet.specs.Sheets.{bytesOf}
 
 -- one byte, and those after it

@@ -1,14 +1,14 @@
 -- The lines of the strokes, and how long a text is. Assumes nothing.
 use mathlib.Core.Path.{_≡_, refl, sym, ap, _∙_}
-use mathlib.Core.Bool.{Bool, true, false, cond, _&&_}
+use mathlib.Core.Bool.{Bool, true, false, cond}
 use mathlib.Core.List.{List, [], _∷_, _++_, map}
 use Prim.Native.Nat.{ℕ, zero, suc, _+_, _-_, _*_, _/_, _%_, _≤_, _<_}
 use native.Mathlib.Omega.{arith}
 use lib.ListN.{length, getD, drop, length-append}
 use lib.Seq.{sets}
 use lib.Dec.{leb, ltb, eqb}
-use borrow.Author.Tests.{eqb-true, leb-true, le-leb, lt-leb}
-use Rattle.refusal.specs.Limits.{mostVertices, mostStrokes, mostPoints}
+use borrow.Author.Tests.{eqb-true, le-leb, lt-leb}
+use Rattle.refusal.specs.Limits.{mostStrokes}
 use Rattle.path.specs.Strokes.{goodFrom, goodStarts, gather, strokesOf, numberAt}
 use Rattle.path.specs.Laid.{joined, Pen, pen, inked}
 use Rattle.path.proofs.Tests.{both}
@@ -16,7 +16,8 @@ use Rattle.path.proofs.Starts.{getD-any, table-next}
 use Rattle.path.proofs.Pushes.{ink-none, ink-place}
 use Rattle.path.proofs.Points.{numbers-lie}
 use Rattle.path.proofs.Gathers.{length-gather, strokes-more, strokes-none}
-use Rattle.sheet.specs.Sheets.{wordAt, strokesIn, strokeCount, pointCount, startsIn, numbersIn, countsGood, isSheet}
+use Rattle.sheet.specs.Sheets.{wordAt, strokesIn, strokeCount, pointCount, startsIn, numbersIn, isSheet}
+use Rattle.sheet.proofs.Sizes.{limits}
 use Rattle.sheet.proofs.Tables.{table-good, joined-all, strokes-count}
 use Rattle.sheet.proofs.Back.{gather-same, tested}
 use Rattle.sheet_list.specs.Listing.{digitsFrom, decimal, spaced, lineOf, linesOf, numberIn, numbersAt, listed, refusedText, mostBytes, textOf}
@@ -174,7 +175,4 @@ pub same-refusal : (b : List ℕ) (n m : ℕ) {b′ : List ℕ} {k : ℕ} → pe
 same-refusal b n m e q = e ∙ ap (λ (x : ℕ). inked sets (pen b 0) (refusedText x)) q
 
 pub few-strokes : (bs : List ℕ) → isSheet bs ≡ true → strokeCount bs ≤ mostStrokes
-unfolding countsGood
-few-strokes bs h =
-    let b = both (leb (wordAt bs 1) mostVertices && leb (strokeCount bs) mostStrokes) (leb (pointCount bs) mostPoints) (tested bs h .counts) in
-    leb-true (strokeCount bs) mostStrokes (both (leb (wordAt bs 1) mostVertices) (leb (strokeCount bs) mostStrokes) (b .0) .1)
+few-strokes bs h = limits (wordAt bs 1) (strokeCount bs) (pointCount bs) (tested bs h .counts) .0

@@ -8,7 +8,7 @@ use sheet_read::is_sheet;
 ghost use mathlib.Core.Path.{_≡_};
 ghost use mathlib.Core.Bool.{true};
 ghost use Prim.Native.Nat.{_+_, _-_, _*_, _≤_};
-ghost use lib.ListN.{length, getD};
+ghost use lib.ListN.{getD};
 ghost use lib.Seq.{sets};
 ghost use Rattle.path.specs.Strokes.{gather, strokesOf};
 ghost use Rattle.path.specs.Laid.{pen, inked};

@@ -1,5 +1,5 @@
 -- The call as a whole: what its tests grant, and its two returns. Assumes nothing.
-use mathlib.Core.Path.{_≡_, refl, sym, ap, _∙_}
+use mathlib.Core.Path.{_≡_, _∙_}
 use mathlib.Core.Bool.{true, _&&_}
 use mathlib.Core.List.{List, [], _∷_}
 use Prim.Native.Nat.{ℕ, _+_, _-_, _≤_}
@@ -9,7 +9,7 @@ use lib.Seq.{sets}
 use lib.Dec.{leb}
 use borrow.Author.Tests.{leb-true}
 use Rattle.refusal.specs.Limits.{mostStrokes, mostPoints}
-use Rattle.refusal.specs.Said.{Said, accepted, refused}
+use Rattle.refusal.specs.Said.{accepted, refused}
 use Rattle.refusal.specs.declared.Refusal.{Refusal}
 use Rattle.refusal.specs.declared.Verdict.{Verdict}
 use Rattle.refusal.specs.declared.Verdict.the-variants.{Accepted, Refused}
@@ -20,14 +20,15 @@ use Rattle.path.proofs.Pushes.{over-sets}
 use Rattle.path.proofs.Gathers.{length-gather}
 use Rattle.mesh.specs.Meshes.{allBelow}
 use Rattle.sheet.specs.Sheets.{wordAt, modeIn, verticesIn, strokeCount, pointCount, startsIn, numbersIn, modeGood, countsGood, placesGood, tableGood, headerGood, isSheet}
-use Rattle.sheet_read.specs.Read.{roomFor, verdictOf, Left, left, leftBy}
-use Rattle.sheet_read.proofs.Loops.{limits}
+use Rattle.sheet_read.specs.Read.{roomFor, verdictOf, left, leftBy}
+use Rattle.sheet.proofs.Sizes.{limits}
 
 pub header-limits : (bs : List ℕ) → headerGood bs ≡ true → (strokeCount bs ≤ mostStrokes) × (pointCount bs ≤ mostPoints)
 unfolding headerGood
 header-limits bs h =
     let b = both (modeGood (modeIn bs) && countsGood (verticesIn bs) (strokeCount bs) (pointCount bs)) (placesGood bs (strokeCount bs) (pointCount bs)) h in
-    limits (verticesIn bs) (strokeCount bs) (pointCount bs) (both (modeGood (modeIn bs)) (countsGood (verticesIn bs) (strokeCount bs) (pointCount bs)) (b .0) .1)
+    let l = limits (verticesIn bs) (strokeCount bs) (pointCount bs) (both (modeGood (modeIn bs)) (countsGood (verticesIn bs) (strokeCount bs) (pointCount bs)) (b .0) .1) in
+    (l .0, l .1)
 
 -- the tests of starts and numbers, by the words that the code has read
 module _ (bs : List ℕ) (s n : ℕ) (es : s ≡ strokeCount bs) (en : n ≡ pointCount bs) where

@@ -1,20 +1,18 @@
 -- The loops over the words of a sheet. Assumes nothing.
-use mathlib.Core.Path.{_≡_, refl, sym, ap, _∙_}
-use mathlib.Core.Bool.{true, false, _&&_}
-use mathlib.Core.List.{List, [], _∷_}
+use mathlib.Core.Path.{_≡_, sym, ap, _∙_}
+use mathlib.Core.Bool.{true, false}
+use mathlib.Core.List.{List}
 use Prim.Native.Nat.{ℕ, suc, _+_, _-_, _≤_, _<_}
 use native.Mathlib.Omega.{arith}
 use native.Mathlib.Numerals.{add-one}
 use lib.ListN.{set}
 use lib.Seq.{sets}
-use lib.Dec.{leb, eqb}
-use borrow.Author.Tests.{le-ltb, lt-ltb, eq-eqb, ne-eqb, leb-true}
-use Rattle.refusal.specs.Limits.{mostVertices, mostStrokes, mostPoints}
-use Rattle.path.proofs.Tests.{both}
+use lib.Dec.{eqb}
+use borrow.Author.Tests.{le-ltb, lt-ltb, eq-eqb, ne-eqb}
 use Rattle.path.specs.Strokes.{gather}
 use Rattle.path.proofs.Gathers.{gather-more, gather-none}
 use Rattle.mesh.specs.Meshes.{allBelow}
-use Rattle.sheet.specs.Sheets.{strictFrom, tableGood, countsGood}
+use Rattle.sheet.specs.Sheets.{strictFrom, tableGood}
 
 module _ (at : ℕ → ℕ) (i e : ℕ) where
   -- the starts from word i up to e
@@ -89,11 +87,3 @@ is-so {r} {w} {n} e h = eq-eqb w n (sym e ∙ h)
 
 pub is-not : {r w n : ℕ} → r ≡ w → (r ≡ n → ⊥) → eqb w n ≡ false
 is-not {r} {w} {n} e h = ne-eqb w n (λ q. h (e ∙ q))
-
--- what the counts have been tested for
-pub limits : (vertices strokes points : ℕ) → countsGood vertices strokes points ≡ true → (strokes ≤ mostStrokes) × (points ≤ mostPoints)
-unfolding countsGood
-limits vertices strokes points h =
-    let b = both (leb vertices mostVertices && leb strokes mostStrokes) (leb points mostPoints) h in
-    let d = both (leb vertices mostVertices) (leb strokes mostStrokes) (b .0) in
-    (leb-true strokes mostStrokes (d .1), leb-true points mostPoints (b .1))

@@ -1,10 +1,8 @@
 // Reading a sheet: whether bytes are one, and its strokes.
 use path::put_number;
-use refusal::MOST_POINTS;
-use refusal::MOST_STROKES;
-use refusal::MOST_VERTICES;
 use refusal::Refusal;
 use refusal::Verdict;
+use sheet::counts_good;
 use sheet::word_at;
 ghost use mathlib.Core.Path.{_≡_};
 ghost use Prim.Native.Nat.{_-_, _≤_};
@@ -12,7 +10,7 @@ ghost use lib.Seq.{sets};
 ghost use Rattle.refusal.specs.Limits.{mostStrokes, mostPoints};
 ghost use Rattle.path.specs.Strokes.{gather};
 ghost use Rattle.mesh.specs.Meshes.{allBelow};
-ghost use Rattle.sheet.specs.Sheets.{wordAt, modeGood, countsGood, placesGood, strictFrom, tableGood, headerGood, isSheet};
+ghost use Rattle.sheet.specs.Sheets.{wordAt, modeGood, placesGood, strictFrom, tableGood, headerGood, isSheet};
 ghost use Rattle.sheet_read.specs.Read.{roomFor, verdictOf, said, left, readLeft};
 
 // What reading a sheet answers: its mode and vertices, and how many points and starts were written; or why none were.
@@ -36,19 +34,6 @@ fn mode_good(mode: u32) -> bool
     mode <= 3
 }
 
-// Whether vertices, strokes and points are within their limits.
-fn counts_good(vertices: u32, strokes: u32, points: u32) -> bool
-    ensures { λ r. ⌜ r ≡ countsGood vertices strokes points ⌝ }
-{
-    if MOST_VERTICES < vertices as usize {
-        return false;
-    }
-    if MOST_STROKES < strokes as usize {
-        return false;
-    }
-    points as usize <= MOST_POINTS
-}
-
 // Whether starts and numbers begin where they must, and the bytes end with them.
 fn places_good(bytes: &[u8], strokes: usize, points: usize) -> bool
     requires { ⌜ (strokes ≤ mostStrokes) × (points ≤ mostPoints) ⌝ }
@@ -67,15 +52,15 @@ fn places_good(bytes: &[u8], strokes: usize, points: usize) -> bool
 fn header_good(bytes: &[u8]) -> bool
     ensures { λ r. ⌜ r ≡ headerGood (now (bytes .entry)) ⌝ }
 {
-    let strokes = word_at(bytes, 2);
-    let points = word_at(bytes, 3);
+    let strokes = word_at(bytes, 2) as usize;
+    let points = word_at(bytes, 3) as usize;
     if !mode_good(word_at(bytes, 0)) {
         return false;
     }
-    if !counts_good(word_at(bytes, 1), strokes, points) {
+    if !counts_good(word_at(bytes, 1) as usize, strokes, points) {
         return false;
     }
-    places_good(bytes, strokes as usize, points as usize)
+    places_good(bytes, strokes, points)
 }
 
 // Whether the words from a up to e rise strictly above s and stay below n.

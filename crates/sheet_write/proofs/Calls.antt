@@ -1,5 +1,5 @@
 -- The call as a whole: what its tests grant, what the parts come to, and its two returns. Assumes nothing.
-use mathlib.Core.Path.{_≡_, refl, sym, ap, _∙_}
+use mathlib.Core.Path.{_≡_, sym, ap, _∙_}
 use mathlib.Core.Bool.{true}
 use mathlib.Core.List.{List, [], _∷_, _++_}
 use Prim.Native.Nat.{ℕ, _+_, _*_, _≤_}
@@ -8,28 +8,21 @@ use lib.ListN.{length}
 use lib.Seq.{sets}
 use lib.Dec.{leb}
 use borrow.Author.Tests.{leb-true}
-use Rattle.refusal.specs.Limits.{mostStrokes, mostPoints, mostVertices}
+use Rattle.refusal.specs.Limits.{mostStrokes, mostPoints}
 use Rattle.refusal.specs.Said.{accepted, refused}
 use Rattle.refusal.specs.declared.Refusal.{Refusal}
 use Rattle.refusal.specs.declared.Verdict.{Verdict}
 use Rattle.refusal.specs.declared.Verdict.the-variants.{Accepted, Refused}
 use Rattle.path.specs.Strokes.{goodStarts, numberAt}
-use Rattle.path.specs.Tests.{countedOf}
 use Rattle.path.specs.Laid.{over, nonEmpty}
-use Rattle.path.proofs.Tests.{passed, both, few-strokes, few-points}
+use Rattle.path.proofs.Tests.{passed}
 use Rattle.path.proofs.Pushes.{over-sets}
 use Rattle.sheet.specs.Kept.{keptFrom}
 use Rattle.sheet.specs.Sheets.{bytesAll, headerOf, wordsOf, sheetOf, sizeOf, strokesIn}
 use Rattle.sheet.proofs.Words.{put-more}
 use Rattle.sheet.proofs.Tables.{joined-all, kept-all, kept-count}
-use Rattle.sheet.proofs.Sizes.{words-size}
-use Rattle.sheet_write.specs.Write.{countsGood, verdictOf, Left, left, leftBy}
-
-pub limits : (points strokes vertices : ℕ) → countsGood points strokes vertices ≡ true → (strokes ≤ mostStrokes) × (points ≤ mostPoints)
-unfolding countsGood
-limits points strokes vertices h =
-    let b = both (countedOf points strokes) (leb vertices mostVertices) h in
-    (few-strokes points strokes (b .0), few-points points strokes (b .0))
+use Rattle.sheet.proofs.Sizes.{limits}
+use Rattle.sheet_write.specs.Write.{verdictOf, left, leftBy}
 
 -- how many strokes have points, as the definition counts them and as the code does
 pub same-size : (ns ss : List ℕ) (room : ℕ) → goodStarts (length ns) ss ≡ true
@@ -51,7 +44,7 @@ granted mode vertices ns ss room h =
     let vertex = passed _ _ _ (count .1) in
     let number = passed _ _ _ (vertex .1) in
     let fit = passed _ _ _ (number .1) in
-    let few = limits (length ns) (length ss) vertices (count .0) in
+    let few = limits vertices (length ss) (length ns) (count .0) in
     record { table = shape .0; strokes = few .0; points = few .1; fits = leb-true _ _ (same-size ns ss room (shape .0) ∙ fit .0) }
 
 -- header, starts and numbers stored one after the other

@@ -1,8 +1,8 @@
 -- The loops over the starts that are written. Assumes nothing.
-use mathlib.Core.Path.{_≡_, refl, sym, ap, _∙_}
+use mathlib.Core.Path.{_≡_, refl, ap}
 use mathlib.Core.Bool.{true, false}
 use mathlib.Core.List.{List, [], _∷_, _++_}
-use Prim.Native.Nat.{ℕ, zero, suc, _+_, _-_, _*_, _≤_, _<_}
+use Prim.Native.Nat.{ℕ, zero, _+_, _-_, _*_, _≤_, _<_}
 use native.Mathlib.Omega.{arith}
 use native.Mathlib.Numerals.{add-one}
 use native.Mathlib.Nat.{add-zero}
@@ -11,7 +11,7 @@ use lib.Seq.{sets, drop-cons, getD-drop}
 use lib.Dec.{ltb}
 use Rattle.sheet.specs.Sheets.{bytesOf, bytesAll, headerOf}
 use Rattle.sheet.proofs.Words.{put-more, put-one, put-none}
-use Rattle.sheet.specs.Kept.{keptOne, keptAt, keptFrom}
+use Rattle.sheet.specs.Kept.{keptAt, keptFrom}
 
 -- one stroke
 module _ (n : ℕ) (ss : List ℕ) (i : ℕ) where

@@ -1,11 +1,11 @@
 -- The number that is stored of a mode number. Assumes nothing.
 use mathlib.Core.Path.{_≡_, refl, sym, ap, _∙_}
 use mathlib.Core.Bool.{true}
-use Prim.Native.Nat.{ℕ, zero, suc, _+_, _≤_}
+use Prim.Native.Nat.{ℕ, zero, suc, _≤_}
 use native.Mathlib.Omega.{arith}
 use lib.Dec.{ltb}
 use borrow.Author.Tests.{lt-ltb}
-use lib.Ieee.{Float, ofBits, eq}
+use lib.Ieee.{ofBits, eq}
 use Rattle.refusal.specs.Said.{Said}
 use Rattle.refusal.specs.declared.Refusal.{Refusal}
 use Rattle.vector.specs.Lengths.{zero64}

@@ -1,24 +1,24 @@
 -- What an accepted call writes is a sheet, from which mode, vertices and the strokes that have points are read back. Assumes nothing.
-use mathlib.Core.Path.{_≡_, sym, ap, _∙_}
-use mathlib.Core.Bool.{true, _&&_}
+use mathlib.Core.Path.{_≡_, ap}
+use mathlib.Core.Bool.{true}
 use mathlib.Core.List.{List}
 use Prim.Native.Nat.{ℕ, _≤_}
 use native.Mathlib.Omega.{arith}
 use lib.ListN.{length}
 use lib.Dec.{leb, ltb}
-use borrow.Author.Tests.{leb-true, ltb-true, le-leb}
+use borrow.Author.Tests.{ltb-true, le-leb}
 use Rattle.refusal.specs.Limits.{mostVertices, mostStrokes, mostPoints}
 use Rattle.refusal.specs.declared.Verdict.the-variants.{Accepted}
 use Rattle.path.specs.Strokes.{numberAt}
-use Rattle.path.specs.Tests.{countedOf}
 use Rattle.path.specs.Laid.{nonEmpty, joined, startsFrom}
-use Rattle.path.proofs.Tests.{passed, both}
+use Rattle.path.proofs.Tests.{passed}
 use Rattle.path.proofs.Pushes.{no-more-kept}
 use Rattle.mesh.specs.Meshes.{allBelow}
 use Rattle.sheet.specs.Sheets.{strokesIn, sheetOf, modeGood, countsGood, startsIn, numbersIn}
+use Rattle.sheet.proofs.Sizes.{limits}
 use Rattle.sheet.proofs.Tables.{joined-all, strokes-count}
 use Rattle.sheet.proofs.Back.{Readable, sheet-back, read-back}
-use Rattle.sheet_write.specs.Write.{modeWord, countsGood as writtenGood, verdictOf}
+use Rattle.sheet_write.specs.Write.{modeWord, verdictOf}
 use Rattle.sheet_write.proofs.Calls.{granted}
 use Rattle.sheet_write.proofs.Modes.{word-most}
 
@@ -27,11 +27,11 @@ module _ (mode vertices : ℕ) (ns ss : List ℕ) (room : ℕ) (h : verdictOf mo
   All = strokesIn ns ss
 
   few-vertices : vertices ≤ mostVertices
-  unfolding verdictOf writtenGood
+  unfolding verdictOf
   few-vertices =
       let shape = passed _ _ _ h in
       let count = passed _ _ _ (shape .1) in
-      leb-true vertices mostVertices (both (countedOf (length ns) (length ss)) (leb vertices mostVertices) (count .0) .1)
+      limits vertices (length ss) (length ns) (count .0) .2
 
   all-below : allBelow vertices (joined All) ≡ true
   unfolding verdictOf

@@ -1,10 +1,8 @@
 -- Writing a sheet: when it is refused, what it answers, and what it leaves in the bytes lent to it.
-use mathlib.Core.Bool.{Bool, _&&_}
 use mathlib.Core.List.{List, [], _∷_}
 use Prim.Native.Nat.{ℕ}
 use lib.ListN.{length}
 use lib.Dec.{leb, ltb}
-use Rattle.refusal.specs.Limits.{mostVertices}
 use Rattle.refusal.specs.declared.Refusal.the-variants.{Shape, Count, Vertex, Number, Room}
 use Rattle.refusal.specs.declared.Verdict.{Verdict}
 use Rattle.refusal.specs.declared.Verdict.the-variants.{Accepted, Refused}
@@ -12,12 +10,11 @@ use Rattle.refusal.specs.Refusals.{unless}
 use Rattle.refusal.specs.Said.{Said, accepted, refused}
 use Rattle.vector.specs.Lengths.{zero64}
 use Rattle.path.specs.Strokes.{goodStarts}
-use Rattle.path.specs.Tests.{countedOf}
 use Rattle.path.specs.Laid.{over, nonEmpty}
 use Rattle.mesh.specs.Meshes.{allBelow}
 use Rattle.mesh_mode.specs.declared.Mode.{Mode}
 use Rattle.mesh_mode.specs.Modes.{modeBy, modeNumber}
-use Rattle.sheet.specs.Sheets.{strokesIn, sheetOf, sizeOf}
+use Rattle.sheet.specs.Sheets.{strokesIn, sheetOf, sizeOf, countsGood}
 use Rattle.sheet_write.specs.declared.SheetWritten.{SheetWritten}
 use Rattle.sheet_write.specs.declared.SheetWritten.the-variants as W
 
@@ -30,15 +27,11 @@ numberIn (m ∷ ms) = modeNumber m
 unfoldable pub modeWord : ℕ → ℕ
 modeWord n = numberIn (modeBy n zero64 .values)
 
--- points, strokes and vertices within the limits
-unfoldable pub countsGood : ℕ → ℕ → ℕ → Bool
-countsGood points strokes vertices = countedOf points strokes && leb vertices mostVertices
-
 -- the lowest refusal that applies: a table of starts, the limits, numbers below the vertex count, a mode, and room for the whole sheet
 unfoldable pub verdictOf : ℕ → ℕ → List ℕ → List ℕ → ℕ → Verdict
 verdictOf mode vertices ns ss room =
     unless (goodStarts (length ns) ss) Shape
-    (unless (countsGood (length ns) (length ss) vertices) Count
+    (unless (countsGood vertices (length ss) (length ns)) Count
     (unless (allBelow vertices ns) Vertex
     (unless (ltb 0 (modeWord mode)) Number
     (unless (leb (sizeOf (length (nonEmpty (strokesIn ns ss))) (length ns)) room) Room

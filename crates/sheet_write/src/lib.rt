@@ -3,15 +3,13 @@ use mesh::all_below;
 use mesh_mode::Moded;
 use mesh_mode::mode_of;
 use mesh_mode::number_of;
-use path::counted;
 use path::end_of;
 use path::rising;
-use refusal::MOST_VERTICES;
 use refusal::Refusal;
 use refusal::Verdict;
+use sheet::counts_good;
 use sheet::put_word;
 ghost use mathlib.Core.Path.{_≡_};
-ghost use mathlib.Core.List.{_++_};
 ghost use Prim.Native.Nat.{_+_, _*_, _<_, _≤_};
 ghost use lib.ListN.{length, getD};
 ghost use lib.Seq.{sets};
@@ -19,7 +17,7 @@ ghost use lib.Dec.{leb, ltb};
 ghost use Rattle.refusal.specs.Limits.{mostStrokes, mostPoints};
 ghost use Rattle.sheet.specs.Sheets.{bytesAll, headerOf, wordsOf, sizeOf};
 ghost use Rattle.sheet.specs.Kept.{keptAt, keptFrom};
-ghost use Rattle.sheet_write.specs.Write.{modeWord, countsGood, verdictOf, said, left, writeLeft};
+ghost use Rattle.sheet_write.specs.Write.{modeWord, verdictOf, said, left, writeLeft};
 
 // What writing a sheet answers: how many bytes were written, or why none were.
 pub enum SheetWritten {
@@ -125,16 +123,6 @@ fn write_header(out: &mut [u8], mode: u32, vertices: u32, strokes: u32, points: 
     put_word(out, 5, 24 + 4 * strokes);
 }
 
-// Whether points, strokes and vertices are within their limits.
-fn counts_good(points: usize, strokes: usize, vertices: u32) -> bool
-    ensures { λ r. ⌜ r ≡ countsGood points strokes vertices ⌝ }
-{
-    if !counted(points, strokes) {
-        return false;
-    }
-    vertices as usize <= MOST_VERTICES
-}
-
 // Whether the sheet of n numbers fits so many bytes.
 fn fits(starts: &[u32], n: usize, room: usize) -> bool
     requires { ⌜ (length (now starts) ≤ mostStrokes) × (n ≤ mostPoints) ⌝ }
@@ -150,7 +138,7 @@ fn verdict(mode: u32, vertices: u32, numbers: &[u32], starts: &[u32], room: usiz
     if !rising(starts, numbers.len()) {
         return Verdict::Refused(Refusal::Shape);
     }
-    if !counts_good(numbers.len(), starts.len(), vertices) {
+    if !counts_good(vertices as usize, starts.len(), numbers.len()) {
         return Verdict::Refused(Refusal::Count);
     }
     if !all_below(numbers, vertices as usize) {

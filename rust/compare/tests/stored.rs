@@ -56,8 +56,7 @@ fn a_damaged_answer_is_seen() {
 #[test]
 #[cfg(original)]
 fn the_stored_rows_are_the_makers() {
-    let strokes = (&["strokes"][..], "replay_strokes");
-    for (words, program) in [(&[][..], "replay"), strokes, (&["meshes"][..], "replay_meshes")] {
+    for (words, program) in [(&[][..], "replay"), (&["strokes"][..], "replay_strokes"), (&["meshes"][..], "replay_meshes")] {
         let made = std::process::Command::new(env!("CARGO_BIN_EXE_rows")).args(words).output().unwrap();
         assert!(made.status.success());
         assert_eq!(String::from_utf8(made.stdout).unwrap(), stored_for(program));

@@ -35,8 +35,8 @@ sub-requires c κs = search needs
 length-squared-requires : tie.Need-length-squared-requires Inv-loop μ-loop
 length-squared-requires c κs = search needs
 
-count-steps-requires : tie.Need-count-steps-requires Inv-loop μ-loop
-count-steps-requires c κs = search needs
+count-span-requires : tie.Need-count-span-requires Inv-loop μ-loop
+count-span-requires c κs = search needs
 
 add-n : tie.Need-add-n Inv-loop μ-loop
 add-n c = omega arith
@@ -78,7 +78,7 @@ count-spans-spec =
     point-at-requires
     sub-requires
     length-squared-requires
-    count-steps-requires
+    count-span-requires
     add-n
     add-n-2
     add-j

@@ -1,5 +1,4 @@
 -- `lesser` meets its contract.
-use mathlib.Core.Path.{refl}
 use native.Mathlib.Omega.{arith}
 use borrow.Author.Tests.{lt-ltb, le-ltb}
 use Rattle.path_reader.proofs.lesser.Statement.{statement}

@@ -1,4 +1,3 @@
-use mathlib.Core.Path.{_∙_}
 use Prim.Native.Nat.{_*_}
 use Rattle.sheet.proofs.Words.{four-set, set-none}
 use borrow.Author.Needs.{needs}

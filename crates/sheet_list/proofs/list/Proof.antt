@@ -1,5 +1,5 @@
 -- `list` meets its contract: a longer input, bytes that are no sheet, and a sheet.
-use mathlib.Core.Path.{_≡_, sym, _∙_}
+use mathlib.Core.Path.{sym, _∙_}
 use borrow.Author.Tests.{not-true, not-false}
 use Rattle.sheet_list.proofs.Lines.{text-long, text-none, text-some, text-is, same-refusal, refused-size, listed-size}
 use borrow.Author.Needs.{needs}

@@ -1,5 +1,5 @@
 -- `start_at` meets its contract.
-use mathlib.Core.Path.{_≡_, sym, ap, _∙_}
+use mathlib.Core.Path.{_∙_}
 use native.Mathlib.Omega.{arith}
 use Rattle.sheet.specs.Sheets.{wordAt}
 use Rattle.sheet_list.proofs.Inks.{start-in, start-past}

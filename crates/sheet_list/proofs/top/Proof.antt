@@ -1,7 +1,6 @@
 -- `top` meets its contract: what is still to be found from here is what was to be found at the start.
-use borrow.Author.Needs.{needs}
-use mathlib.Core.Path.{_≡_, refl, ap, _∙_, sym}
-use Prim.Native.Nat.{ℕ, _-_, _≤_}
+use mathlib.Core.Path.{_≡_, refl}
+use Prim.Native.Nat.{_-_, _≤_}
 use native.Mathlib.Omega.{arith}
 use Rattle.sheet_list.specs.Listing.{topFrom}
 use Rattle.sheet_list.proofs.Inks.{ten-times, top-turn, top-end, top-all}

@@ -1,11 +1,11 @@
 -- `write_digits` meets its contract: what is still to be written from here is what was to be written at the start.
 use borrow.Author.Needs.{needs}
-use mathlib.Core.Path.{_≡_, refl, ap, _∙_, sym}
-use Prim.Native.Nat.{ℕ, _+_, _-_, _≤_}
+use mathlib.Core.Path.{_≡_, refl, ap, _∙_}
+use Prim.Native.Nat.{_+_, _-_, _≤_}
 use native.Mathlib.Omega.{arith}
 use lib.ListN.{length, length-set}
 use lib.Seq.{sets}
-use Rattle.path.specs.Laid.{Pen, pen, inked}
+use Rattle.path.specs.Laid.{pen, inked}
 use Rattle.sheet_list.specs.Listing.{digitsFrom}
 use Rattle.sheet_list.proofs.Inks.{above, digit-turn, digit-stop, digit-end}
 use Rattle.sheet_list.proofs.write_digits.Statement.{statement}

@@ -1,5 +1,4 @@
 -- `write_line` meets its contract.
-use mathlib.Core.Path.{_≡_, ap, _∙_}
 use native.Mathlib.Omega.{arith}
 use Rattle.sheet.specs.Sheets.{wordAt}
 use Rattle.sheet_list.proofs.Inks.{line-none, line-some}

@@ -1,12 +1,12 @@
 -- `write_more` meets its contract: what is still to be written from here is what was to be written at the start.
 use borrow.Author.Needs.{needs}
-use mathlib.Core.Path.{_≡_, refl, ap, _∙_, sym}
-use Prim.Native.Nat.{ℕ, _+_, _-_, _*_, _≤_}
+use mathlib.Core.Path.{_≡_, refl}
+use Prim.Native.Nat.{_+_, _-_, _*_, _≤_}
 use native.Mathlib.Omega.{arith}
 use lib.ListN.{length}
 use lib.Seq.{sets}
 use Rattle.path.specs.Strokes.{gather}
-use Rattle.path.specs.Laid.{Pen, pen, inked}
+use Rattle.path.specs.Laid.{pen, inked}
 use Rattle.sheet.specs.Sheets.{wordAt}
 use Rattle.sheet_list.specs.Listing.{spaced}
 use Rattle.sheet_list.proofs.Inks.{space-turn, space-end}

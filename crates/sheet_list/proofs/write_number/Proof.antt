@@ -1,5 +1,5 @@
 -- `write_number` meets its contract.
-use mathlib.Core.Path.{_≡_, ap, _∙_}
+use mathlib.Core.Path.{ap, _∙_}
 use Prim.Native.Nat.{ℕ}
 use lib.Seq.{sets}
 use Rattle.path.specs.Laid.{pen, inked}

@@ -1,6 +1,4 @@
 -- `places_good` meets its contract.
-use mathlib.Core.Path.{sym, _∙_}
-use borrow.Author.Tests.{eq-eqb, ne-eqb}
 use Rattle.sheet.specs.Sheets.{placesGood}
 use Rattle.sheet_read.proofs.Loops.{is-not, is-so}
 use borrow.Author.Needs.{needs}

@@ -1,6 +1,6 @@
 -- `fits` meets its contract.
 use mathlib.Core.Path.{ap}
-use Prim.Native.Nat.{ℕ, _+_, _*_}
+use Prim.Native.Nat.{ℕ}
 use lib.Dec.{leb}
 use Rattle.sheet.specs.Sheets.{sizeOf}
 use borrow.Author.Needs.{needs}

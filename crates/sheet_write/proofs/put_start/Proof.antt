@@ -1,6 +1,6 @@
 -- `put_start` meets its contract.
-use mathlib.Core.Path.{_≡_, sym, ap, _∙_}
-use mathlib.Core.List.{List, [], _∷_}
+use mathlib.Core.Path.{sym, ap, _∙_}
+use mathlib.Core.List.{List}
 use Prim.Native.Nat.{ℕ, _*_}
 use native.Mathlib.Omega.{arith}
 use lib.ListN.{length, getD}
@@ -8,7 +8,6 @@ use lib.Seq.{sets}
 use borrow.Author.Tests.{not-true, not-false}
 use Rattle.sheet.specs.Sheets.{bytesAll}
 use Rattle.sheet.proofs.Words.{put-one, put-none}
-use Rattle.sheet.specs.Kept.{keptAt}
 use Rattle.sheet_write.proofs.Kepts.{at-some, at-none}
 use borrow.Author.Needs.{needs}
 use Rattle.sheet_write.proofs.put_start.Statement.{statement}

@@ -1,13 +1,13 @@
 -- `verdict` meets its contract: each test is that of the definition.
 use mathlib.Core.Path.{sym, ap, _∙_}
-use Prim.Native.Nat.{ℕ}
 use native.Mathlib.Omega.{arith}
 use lib.Dec.{ltb}
 use borrow.Author.Tests.{not-true, not-false}
 use Rattle.refusal.specs.Refusals.{unless}
 use Rattle.sheet_write.specs.Write.{verdictOf}
 use Rattle.sheet_write.proofs.Modes.{word-some}
-use Rattle.sheet_write.proofs.Calls.{limits, same-size}
+use Rattle.sheet.proofs.Sizes.{limits}
+use Rattle.sheet_write.proofs.Calls.{same-size}
 use borrow.Author.Needs.{needs}
 use Rattle.sheet_write.proofs.verdict.Statement.{statement}
 use Rattle.sheet_write.proofs.verdict.Tie as tie

@@ -1,8 +1,8 @@
 -- `counts_good` meets its contract.
 use borrow.Author.Tests.{le-leb, lt-leb}
 use Rattle.sheet.specs.Sheets.{countsGood}
-use Rattle.sheet_read.proofs.counts_good.Statement.{statement}
-use Rattle.sheet_read.proofs.counts_good.Tie as tie
+use Rattle.sheet.proofs.counts_good.Statement.{statement}
+use Rattle.sheet.proofs.counts_good.Tie as tie
 
 returns : tie.Need-returns
 unfolding countsGood
