@@ -247,16 +247,6 @@ fn wrote(points: usize, starts: usize) -> Answer {
 
 // ---- drawing
 
-fn draw_answer(answer: Drawing) -> Answer {
-    match answer {
-        Drawing::Wrote {
-            points: p,
-            starts: s,
-        } => wrote(p, s),
-        Drawing::Refused(why) => refused(refusal::number(why)),
-    }
-}
-
 // Draws as the row says: its mode, cosine, eye and tolerance.
 fn drawn(
     page: &[u64; 256],
@@ -272,10 +262,25 @@ fn drawn(
     let eye = Vector::new(real(page[7]), real(page[8]), real(page[9]));
     let cosine = real(page[6]);
     let tolerance = real(page[10]);
-    let answer = mesh_draw::draw(
-        vertices, indices, flips, mode, cosine, eye, tolerance, scratch, seen, out, marks,
-    );
-    draw_answer(answer)
+    match mesh_draw::draw(
+        vertices,
+        indices,
+        flips,
+        mode,
+        cosine,
+        eye,
+        tolerance,
+        scratch,
+        seen,
+        out,
+        marks,
+    ) {
+        Drawing::Wrote {
+            points: p,
+            starts: s,
+        } => wrote(p, s),
+        Drawing::Refused(why) => refused(refusal::number(why)),
+    }
 }
 
 // Whether a drawing left all as the row says from place `at` on.
@@ -337,18 +342,19 @@ fn draw_agrees(page: &[u64; 256]) -> bool {
 
 // ---- welds and sections
 
-fn weld_answer(answer: Welded) -> Answer {
-    match answer {
+fn welded(
+    corners: &[f64],
+    scratch: &mut [u32],
+    vertices: &mut [f64],
+    indices: &mut [u32],
+) -> Answer {
+    match mesh_weld::weld(corners, scratch, vertices, indices) {
         Welded::Wrote {
             vertices: v,
             indices: i,
         } => wrote(v, i),
         Welded::Refused(why) => refused(refusal::number(why)),
     }
-}
-
-fn welded(corners: &[f64], scratch: &mut [u32], vertices: &mut [f64], indices: &mut [u32]) -> Answer {
-    weld_answer(mesh_weld::weld(corners, scratch, vertices, indices))
 }
 
 // Whether a weld left all as the row says from place `at` on.
@@ -384,16 +390,6 @@ fn weld_agrees(page: &[u64; 256]) -> bool {
     weld_left(page, 3 + nc, a, &scratch[..], &vertices[..], &indices[..])
 }
 
-fn section_answer(answer: Sectioned) -> Answer {
-    match answer {
-        Sectioned::Wrote {
-            points: p,
-            starts: s,
-        } => wrote(p, s),
-        Sectioned::Refused(why) => refused(refusal::number(why)),
-    }
-}
-
 fn plane(page: &[u64; 256]) -> Plane {
     Plane {
         point: Vector::new(real(page[5]), real(page[6]), real(page[7])),
@@ -408,8 +404,13 @@ fn sectioned(
     out: &mut [f64],
     marks: &mut [u32],
 ) -> Answer {
-    let answer = mesh_section::section(vertices, indices, plane(page), real(page[4]), out, marks);
-    section_answer(answer)
+    match mesh_section::section(vertices, indices, plane(page), real(page[4]), out, marks) {
+        Sectioned::Wrote {
+            points: p,
+            starts: s,
+        } => wrote(p, s),
+        Sectioned::Refused(why) => refused(refusal::number(why)),
+    }
 }
 
 fn section_agrees(page: &[u64; 256]) -> bool {
@@ -473,18 +474,13 @@ fn end_word(page: &mut [u64; 256]) {
     }
 }
 
-fn bump(counts: &mut [u64; 4], function: usize)
-    requires { ⌜ function < 4 ⌝ }
-{
-    counts[function] = std::num::wrapping_add_u64(counts[function], 1);
-}
-
 // One more row of a function, in the counts of rows or of those that differ.
 fn count(counts: &mut [u64; 4], function: u64) {
     if function < 4 {
-        bump(counts, function as usize);
+        let at = function as usize;
+        counts[at] = std::num::wrapping_add_u64(counts[at], 1);
     } else {
-        bump(counts, 0);
+        counts[0] = std::num::wrapping_add_u64(counts[0], 1);
     }
 }
 

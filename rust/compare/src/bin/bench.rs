@@ -53,6 +53,7 @@ mod calls {
         Call { name: "normalize", port: normalize_port, original: normalize_original },
         Call { name: "segment_distance", port: segment_port, original: segment_original },
         Call { name: "mul_position_w", port: position_port, original: position_original },
+        Call { name: "chop of long spans, some twenty steps each", port: long_port, original: long_original },
         Call { name: "chop into five steps a span", port: chop_port, original: chop_original },
         Call { name: "chop_adaptive", port: adaptive_port, original: adaptive_original },
         Call { name: "simplify, 4,096 points a stroke", port: simplify_port, original: simplify_original },
@@ -326,6 +327,35 @@ mod calls {
         let vectors: Vec<Vector> = points.chunks_exact(3).map(|p| Vector::new(p[0], p[1], p[2])).collect();
         let mut paths = Paths::new();
         vectors.chunks(64).for_each(|ring| paths.new_path().extend(ring.iter().copied()));
+        best(runs, || {
+            black_box(paths.chop(step));
+        })
+    }
+
+    /// Every sixteenth vertex, in strokes of 64 points, and a step that cuts a span into some twenty.
+    fn long_spans(mesh: &Mesh) -> (Vec<Vector>, f64) {
+        let points: Vec<Vector> = mesh.vertices.iter().step_by(16).map(|&[x, y, z]| Vector::new(x, y, z)).collect();
+        let total: f64 =
+            points.chunks(64).flat_map(|some| some.windows(2).map(|w| w[0].distance(w[1]))).sum();
+        let step = total / (20 * points.len()) as f64;
+        (points, step)
+    }
+
+    fn long_port(mesh: &Mesh, runs: usize) -> f64 {
+        let (vectors, step) = long_spans(mesh);
+        let points: Vec<f64> = vectors.iter().flat_map(|v| [v.x, v.y, v.z]).collect();
+        let starts: Vec<u32> = (0..vectors.len() as u32).step_by(64).collect();
+        let (mut out_points, mut out_starts) = (vec![0.0; points.len() * 64], starts.clone());
+        best(runs, || {
+            lent::chop(&points, &starts, step, &mut out_points, &mut out_starts).unwrap();
+            black_box((&mut out_points, &mut out_starts));
+        })
+    }
+
+    fn long_original(mesh: &Mesh, runs: usize) -> f64 {
+        let (vectors, step) = long_spans(mesh);
+        let mut paths = Paths::new();
+        vectors.chunks(64).for_each(|some| paths.new_path().extend(some.iter().copied()));
         best(runs, || {
             black_box(paths.chop(step));
         })
