@@ -132,11 +132,21 @@ fn main() {
     square(b"the square, mode not said:", &back[..], 0, 0.0, above);
     square(b"the square, triangles:", &back[..], 1, 0.0, above);
     square(b"the square, polygonal:", &back[..], 2, 0.0, above);
-    silhouette(b"silhouette from (0,0,5), cos_theta 0, no flip:", &back[..0], 0.0);
+    silhouette(
+        b"silhouette from (0,0,5), cos_theta 0, no flip:",
+        &back[..0],
+        0.0,
+    );
     silhouette(b"with the flip (0,1):", &turned[..], 0.0);
     silhouette(b"with the flip (1,0):", &back[..], 0.0);
     silhouette(b"with cos_theta 1:", &back[..0], 1.0);
-    square(b"from (5,5,0):", &back[..0], 3, 0.0, Vector::new(5.0, 5.0, 0.0));
+    square(
+        b"from (5,5,0):",
+        &back[..0],
+        3,
+        0.0,
+        Vector::new(5.0, 5.0, 0.0),
+    );
     square(b"mode 4:", &back[..0], 4, 0.0, above);
     flat(b"face 0 0 1, triangles:", 1);
     flat(b"face 0 0 1, polygonal:", 2);

@@ -146,7 +146,16 @@ fn draw_verdict(
         return Verdict::Refused(Refusal::Vertex);
     }
     work_verdict(
-        vertices, indices, number, cos_theta, eye, tolerance, words, numbers, room, start_room,
+        vertices,
+        indices,
+        number,
+        cos_theta,
+        eye,
+        tolerance,
+        words,
+        numbers,
+        room,
+        start_room,
     )
 }
 
@@ -187,7 +196,16 @@ pub fn draw(
         Verdict::Accepted => {
             let mode = mode_in(number, cos_theta);
             let p = draw_strokes(
-                vertices, indices, flips, mode, eye, tolerance, scratch, seen, out_points, out_starts,
+                vertices,
+                indices,
+                flips,
+                mode,
+                eye,
+                tolerance,
+                scratch,
+                seen,
+                out_points,
+                out_starts,
             );
             Drawing::Wrote {
                 points: p.points,

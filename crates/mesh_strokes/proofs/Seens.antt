@@ -67,8 +67,9 @@ module _ (s t : Seen) (n : ℕ) (A : Agree s t n) where
 module _ (eye : Vector) (vs : List Float) (is : List ℕ) (l : List Float) (room : 4 * (length is / 3) ≤ length l) where
   stored : Agree (seenIn (seenFrom eye (faceAt vs is) 0 (length is / 3) l)) (seenBy eye vs is) (length is / 3)
   stored = record {
-      normal = λ f h. kept-seen eye (faceAt vs is) (length is / 3) l (omega arith) f h .normal;
-      dot = λ f h. kept-seen eye (faceAt vs is) (length is / 3) l (omega arith) f h .facing }
+    normal = λ f h. kept-seen eye (faceAt vs is) (length is / 3) l (omega arith) f h .normal;
+    dot = λ f h. kept-seen eye (faceAt vs is) (length is / 3) l (omega arith) f h .facing;
+  }
 
   -- the rule over what was stored for the mode
   looked : (mode : Mode) (flips : List ℕ) (tolerance : Float) (fs : List ℕ) → Below (length is / 3) fs

@@ -56,8 +56,12 @@ module _ (is : List ℕ) (words numbers room startRoom : ℕ) (F : Fitting is wo
   unfolding fits
   fitting m s op os e h p q =
       let l : length (drop (5 * length is) s) ≡ words - 5 * length is = length-drop (5 * length is) s ∙ ap (λ (w : ℕ). w - 5 * length is) e in
-      rw (le-leb m mostStrokes (omega (arith, F .three, F .few)), le-leb (8 * m) (length (drop (5 * length is) s)) (omega (arith, l, F .three, F .scratch)),
-      le-leb (2 * m) (length op) (omega (arith, F .three, F .points)), le-leb m (length os) (omega (arith, F .three, F .starts)))
+      rw (
+        le-leb m mostStrokes (omega (arith, F .three, F .few)),
+        le-leb (8 * m) (length (drop (5 * length is) s)) (omega (arith, l, F .three, F .scratch)),
+        le-leb (2 * m) (length op) (omega (arith, F .three, F .points)),
+        le-leb m (length os) (omega (arith, F .three, F .starts)),
+      )
 
 -- a part up to the end
 pub all-after : (s : List ℕ) (a : ℕ) → take (length s - a) (drop a s) ≡ drop a s
@@ -73,7 +77,7 @@ unfolding pairsLeft lent.laid
 spliced t t′ op os op′ os′ m p q f e =
     let D = splice 0 eqb (pairsOf (take (2 * m) t)) in
     let g : lent.left (accepted (p ∷ q ∷ [])) t′ op′ os′ ≡ lent.left (accepted (length (joined D) ∷ length D ∷ [])) (over t (replicate (8 * m) 0)) (over op (joined D)) (over os (startsFrom 0 D)) =
-      e ∙ ap (λ (b : Bool). cond b (lent.left (accepted (length (joined D) ∷ length D ∷ [])) (over t (replicate (8 * m) 0)) (over op (joined D)) (over os (startsFrom 0 D))) (lent.left (accepted (0 ∷ 0 ∷ [])) t op os)) f in
+    e ∙ ap (λ (b : Bool). cond b (lent.left (accepted (length (joined D) ∷ length D ∷ [])) (over t (replicate (8 * m) 0)) (over op (joined D)) (over os (startsFrom 0 D))) (lent.left (accepted (0 ∷ 0 ∷ [])) t op os)) f in
     let n = first-two p q (length (joined D)) (length D) (ap (λ (x : lent.Left). x .answer) g) in
     record { points = ap (λ (x : lent.Left). x .points) g; starts = ap (λ (x : lent.Left). x .starts) g; many = n .0; strokes = n .1 }
 

@@ -208,9 +208,10 @@ module _ (mode : Mode) (seen : Seen) (tolerance : Float) (is s flips : List ℕ)
     went-on : (w′ : List ℕ) → pairsOf w′ ++ strokesBy keep is rest ≡ pairsOf w ++ strokesBy keep is ((first ∷ others) ∷ rest) → Went keep is w′ q
     unfolding rest
     went-on w′ e = record {
-        done = W .done ++ ((first ∷ others) ∷ []);
-        split = split-here ∙ sym (append-assoc (W .done) ((first ∷ others) ∷ []) rest);
-        pairs = e ∙ ap (λ (gs : List (List ℕ)). pairsOf w ++ strokesBy keep is gs) (sym (edge-splits is p q h at-end)) ∙ W .pairs }
+      done = W .done ++ ((first ∷ others) ∷ []);
+      split = split-here ∙ sym (append-assoc (W .done) ((first ∷ others) ∷ []) rest);
+      pairs = e ∙ ap (λ (gs : List (List ℕ)). pairsOf w ++ strokesBy keep is gs) (sym (edge-splits is p q h at-end)) ∙ W .pairs;
+    }
 
     pub turn-left : keep (facesOf (first ∷ others)) ≡ false → Went keep is w q
     turn-left n = went-on w (ap (λ (gs : List (List ℕ)). pairsOf w ++ gs) (sym (stroke-left keep is first others rest n)))
@@ -236,26 +237,28 @@ module _ (mode : Mode) (seen : Seen) (tolerance : Float) (is s flips : List ℕ)
 
   next-left : (s′ : List ℕ) (r : ℕ) → r ≡ m → s′ ≡ s → (Went keep is (region s (5 * length is) (2 * m)) p → keep (facesOf (first ∷ others)) ≡ false) → Next s′ r
   next-left s′ r er es n = record {
-      size = ap length es;
-      front = ap (take (5 * length is)) es;
-      low = omega arith;
-      high = omega arith;
-      went = λ W. rw (er, es) (turn-left (region s (5 * length is) (2 * m)) W (n W)) }
+    size = ap length es;
+    front = ap (take (5 * length is)) es;
+    low = omega arith;
+    high = omega arith;
+    went = λ W. rw (er, es) (turn-left (region s (5 * length is) (2 * m)) W (n W));
+  }
 
   next-kept : (k : ℕ) → k ≡ first → (s′ : List ℕ) (r : ℕ) → r ≡ m + 1 → s′ ≡ withPair s (length is) k m
       → (Went keep is (region s (5 * length is) (2 * m)) p → keep (facesOf (first ∷ others)) ≡ true) → Next s′ r
   next-kept k ek s′ r er es y =
       let l : m < length is = omega arith in
       record {
-      size = ap length es ∙ pair-size s (length is) k m R l;
-      front = ap (take (5 * length is)) es ∙ pair-front s (length is) k m R l;
-      low = omega arith;
-      high = omega arith;
-      went = λ W.
-        subst (λ (z : List ℕ). Went keep is z q)
-        (sym (ap (λ (i : ℕ). region s′ (5 * length is) (2 * i)) er ∙ ap (λ (z : List ℕ). region z (5 * length is) (2 * (m + 1))) es ∙ pair-more s (length is) k m R l
-        ∙ ap (λ (i : ℕ). region s (5 * length is) (2 * m) ++ (getD s i 0 ∷ getD s (length is + i) 0 ∷ [])) ek))
-        (turn-kept (region s (5 * length is) (2 * m)) W (y W) (length-region s (5 * length is) (2 * m) (omega (arith, R .long)))) }
+        size = ap length es ∙ pair-size s (length is) k m R l;
+        front = ap (take (5 * length is)) es ∙ pair-front s (length is) k m R l;
+        low = omega arith;
+        high = omega arith;
+        went = λ W.
+            subst (λ (z : List ℕ). Went keep is z q)
+            (sym (ap (λ (i : ℕ). region s′ (5 * length is) (2 * i)) er ∙ ap (λ (z : List ℕ). region z (5 * length is) (2 * (m + 1))) es ∙ pair-more s (length is) k m R l
+            ∙ ap (λ (i : ℕ). region s (5 * length is) (2 * m) ++ (getD s i 0 ∷ getD s (length is + i) 0 ∷ [])) ek))
+            (turn-kept (region s (5 * length is) (2 * m)) W (y W) (length-region s (5 * length is) (2 * m) (omega (arith, R .long))));
+      }
 
   pub next : (s′ : List ℕ) (r : ℕ)
       → written r s′ ≡ edgeKept (keptBy mode seen (flipAt s (length is) p) tolerance (facesOf (region s (2 * length is + p) (q - p)))) s (length is) (getD s (2 * length is + p) 0) m → Next s′ r

@@ -54,7 +54,7 @@ pub record KeptIn (mode : Mode) (seen : List Float) (tolerance : Float) (is s s�
   pub size : length s′ ≡ length s
   pub few : r ≤ length is
   pub pairs : (flips : List ℕ) → take (5 * length is) s ≡ wordsOf is flips
-    → pairsOf (region s′ (5 * length is) (2 * r)) ≡ strokesBy (kept mode (seenIn seen) flips tolerance) is (edgesOf is)
+      → pairsOf (region s′ (5 * length is) (2 * r)) ≡ strokesBy (kept mode (seenIn seen) flips tolerance) is (edgesOf is)
 
 -- what is stored of the faces for a mode: triangles need nothing
 unfoldable pub lookIn : Mode → Vector → List Float → List ℕ → List Float → List Float

@@ -216,7 +216,16 @@ pub fn draw_strokes(
         };
     }
     let p = draw_in(
-        vertices, indices, flips, mode, eye, tolerance, scratch, seen, out_points, out_starts,
+        vertices,
+        indices,
+        flips,
+        mode,
+        eye,
+        tolerance,
+        scratch,
+        seen,
+        out_points,
+        out_starts,
     );
     clear(scratch);
     clear_seen(seen);

@@ -3,18 +3,18 @@ use mathlib.Core.Path.{_≡_}
 use mathlib.Core.List.{List, [], _∷_, _++_, map}
 use Prim.Native.Nat.{ℕ}
 use lib.Dec.{eqb}
-use Rattle.vector.specs.Cases as V
+use Rattle.path_ends.specs.Splice.{splice}
+use Rattle.vector.specs.Cases as N
 use Rattle.path_chop.specs.Cases as C
 use Rattle.path_adaptive.specs.Cases as A
 use Rattle.path_simplify.specs.Cases as S
-use Rattle.path_ends.specs.Splice.{splice}
 use Rattle.mesh_weld.specs.Cases as W
 use Rattle.mesh_strokes.specs.Cases as D
 use Rattle.sheet_write.specs.Cases as B
 use Rattle.sheet_list.specs.Cases as L
 
 pub data Case : Type 0 where
-  arithmetic : V.Case → Case
+  arithmetic : N.Case → Case
   cut : C.Case → Case
   halved : A.Case → Case
   simplified : S.Case → Case
@@ -25,7 +25,7 @@ pub data Case : Type 0 where
   listed : L.Case → Case
 
 abbrev pub Holds : Case → Type 0
-Holds (arithmetic c) = V.Holds c
+Holds (arithmetic c) = N.Holds c
 Holds (cut c) = C.Holds c
 Holds (halved c) = A.Holds c
 Holds (simplified c) = S.Holds c
@@ -48,4 +48,4 @@ splices =
 
 unfoldable pub paper : List Case
 paper =
-    map arithmetic V.paper ++ (map welded W.paper ++ (splices ++ (map drawn D.paper ++ (map cut C.paper ++ (map halved A.paper ++ (map simplified S.paper ++ (map written B.paper ++ map listed L.paper)))))))
+    map arithmetic N.paper ++ (map welded W.paper ++ (splices ++ (map drawn D.paper ++ (map cut C.paper ++ (map halved A.paper ++ (map simplified S.paper ++ (map written B.paper ++ map listed L.paper)))))))

@@ -100,7 +100,17 @@ pub extern "C" fn ramikohy_draw(
 {
     let e = point(eye);
     match mesh_draw::draw(
-        vertices, indices, flips, mode, cos_theta, e, tolerance, scratch, seen, out_points, out_starts,
+        vertices,
+        indices,
+        flips,
+        mode,
+        cos_theta,
+        e,
+        tolerance,
+        scratch,
+        seen,
+        out_points,
+        out_starts,
     ) {
         Drawing::Wrote {
             points: p,

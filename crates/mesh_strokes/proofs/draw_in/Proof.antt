@@ -23,9 +23,10 @@ keep-edges-requires c κs =
     let a = c .before .before .before .before .before .before .before .before .before .before .before .before .before .before .before .before .before .args in
     let F = c .before .before .before .before .before .before .before .before .before .before .before .before .before .before .before .before .before .pre in
     let e = c .before .before .before .before .list-edges .ensures in
-    let fl = flipsFor (a .mode) (a .flips .now) in
-    (room-for (a .indices .now) _ _ _ _ F (c .before .before .before .before .list-edges .last .1 .1 .1 .0) (ap length e ∙ edges-length (a .scratch .now) (a .indices .now) fl),
-    listed (a .indices .now) _ _ _ _ F (a .scratch .now) (c .before .before .before .before .list-edges .last .1 .1 .1 .0) fl refl e)
+    let fl = flipsFor (a .mode) (a .flips .now) in (
+      room-for (a .indices .now) _ _ _ _ F (c .before .before .before .before .list-edges .last .1 .1 .1 .0) (ap length e ∙ edges-length (a .scratch .now) (a .indices .now) fl),
+      listed (a .indices .now) _ _ _ _ F (a .scratch .now) (c .before .before .before .before .list-edges .last .1 .1 .1 .0) fl refl e,
+    )
 
 mul-a : tie.Need-mul-a
 mul-a c = search needs

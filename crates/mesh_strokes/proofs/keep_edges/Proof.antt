@@ -37,10 +37,15 @@ keep-edge-requires c κs =
     let R = room-same (a .s .now) (l .s) n (pre .0) (l .inv .2) in
     let w = l .inv .3 ∙ pre .1 .words in
     let e = c .before .edge-end .ensures in
-    let h = c .before .before .before .loop-test .taken in
-    (R, (turn-low (a .mode) (seenIn (a .seen .now)) (a .tolerance) (a .indices .now) (l .s) (pre .1 .flips) (l .p) _ (l .m) h R w e (l .inv .1),
-    turn-high (a .mode) (seenIn (a .seen .now)) (a .tolerance) (a .indices .now) (l .s) (pre .1 .flips) (l .p) _ (l .m) h R w e (l .inv .1),
-    l .inv .1, turn-below (a .mode) (seenIn (a .seen .now)) (a .tolerance) (a .indices .now) (l .s) (pre .1 .flips) (l .p) _ (l .m) h R w e (l .inv .1)))
+    let h = c .before .before .before .loop-test .taken in (
+      R,
+      (
+        turn-low (a .mode) (seenIn (a .seen .now)) (a .tolerance) (a .indices .now) (l .s) (pre .1 .flips) (l .p) _ (l .m) h R w e (l .inv .1),
+        turn-high (a .mode) (seenIn (a .seen .now)) (a .tolerance) (a .indices .now) (l .s) (pre .1 .flips) (l .p) _ (l .m) h R w e (l .inv .1),
+        l .inv .1,
+        turn-below (a .mode) (seenIn (a .seen .now)) (a .tolerance) (a .indices .now) (l .s) (pre .1 .flips) (l .p) _ (l .m) h R w e (l .inv .1),
+      ),
+    )
 
 loop-less : tie.Need-loop-less Inv-loop μ-loop
 loop-less c =
@@ -65,10 +70,13 @@ loop-again c =
     let e = c .before .before .before .before .edge-end .ensures in
     let h = c .before .before .before .before .before .before .loop-test .taken in
     let N = next (a .mode) (seenIn (a .seen .now)) (a .tolerance) (a .indices .now) (l .s) (pre .1 .flips) (l .p) _ (l .m) h R w e (l .inv .1) _ _ (c .before .before .keep-edge .ensures .0) in
-    let low = turn-low (a .mode) (seenIn (a .seen .now)) (a .tolerance) (a .indices .now) (l .s) (pre .1 .flips) (l .p) _ (l .m) h R w e (l .inv .1) in
-    (turn-high (a .mode) (seenIn (a .seen .now)) (a .tolerance) (a .indices .now) (l .s) (pre .1 .flips) (l .p) _ (l .m) h R w e (l .inv .1),
-    omega (arith, N .high, low, l .inv .1), N .size ∙ l .inv .2, N .front ∙ l .inv .3,
-    λ flips f. next (a .mode) (seenIn (a .seen .now)) (a .tolerance) (a .indices .now) (l .s) flips (l .p) _ (l .m) h R (l .inv .3 ∙ f) e (l .inv .1) _ _ (c .before .before .keep-edge .ensures .0) .went (l .inv .4 flips f))
+    let low = turn-low (a .mode) (seenIn (a .seen .now)) (a .tolerance) (a .indices .now) (l .s) (pre .1 .flips) (l .p) _ (l .m) h R w e (l .inv .1) in (
+      turn-high (a .mode) (seenIn (a .seen .now)) (a .tolerance) (a .indices .now) (l .s) (pre .1 .flips) (l .p) _ (l .m) h R w e (l .inv .1),
+      omega (arith, N .high, low, l .inv .1),
+      N .size ∙ l .inv .2,
+      N .front ∙ l .inv .3,
+      λ flips f. next (a .mode) (seenIn (a .seen .now)) (a .tolerance) (a .indices .now) (l .s) flips (l .p) _ (l .m) h R (l .inv .3 ∙ f) e (l .inv .1) _ _ (c .before .before .keep-edge .ensures .0) .went (l .inv .4 flips f),
+    )
 
 same-length : tie.Need-same-length Inv-loop μ-loop
 same-length c = c .before .loop .inv .2
