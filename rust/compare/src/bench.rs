@@ -56,3 +56,17 @@ pub fn time(call: &Call, runs: usize) -> Row {
     let (small, large) = (at(0), at(1));
     Row { call: call.name, port: [small.0, large.0], original: [small.1, large.1] }
 }
+
+/// What is timed of a call that the original lacks: the bytes that it handles and the seconds.
+pub struct Rated {
+    pub name: &'static str,
+    pub port: fn(&Mesh, usize) -> (usize, f64),
+}
+
+/// A line of such a call: bytes and time at the larger size, bytes a second, and how the time grows.
+pub fn rate(call: &Rated, runs: usize) -> String {
+    let [small, large] = SIZES.map(|(around, across, _)| (call.port)(&torus::wavy(around, across), runs));
+    let (bytes, seconds) = large;
+    let a_second = bytes as f64 / seconds / 1e6;
+    format!("| {} | {bytes} | {:.2} | {a_second:.0} | {:.2} |", call.name, seconds * 1e3, seconds / small.1)
+}

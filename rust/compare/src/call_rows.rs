@@ -1,16 +1,19 @@
 //! Stored rows of the calls on lent lists: an input, and what the rules and the original say that the call leaves, one to a
-//! line. The programs `replay`, `replay_strokes` and `replay_meshes` work them out by the proved crates.
+//! line. The programs `replay`, `replay_strokes`, `replay_meshes` and `replay_sheets` work them out by the proved crates.
 //!
 //! A row is words of hexadecimal digits with one space between: the call's number, the status, how many numbers each list of
 //! the input has, the other numbers, the lists and, where the status is 0, the counts and what was written. Every list that is
 //! lent has [`LENT`] elements; a drawing's have their own lengths, [`DRAWN`].
 
 use crate::calls::strokes::bits;
-use crate::calls::{Left, Lent, adaptive, chop, draw, section, simplify, splice, weld};
+use crate::calls::{Left, Lent, adaptive, chop, draw, read_sheet, section, simplify, splice, weld, write_sheet};
 use crate::random::Random;
 
 /// The elements of each list that a row's call is lent.
 pub const LENT: usize = 96;
+
+/// The points and starts that reading a sheet is lent.
+const READ: [usize; 2] = [10, 3];
 
 /// The words, numbers, points and starts that a drawing is lent: scratch for five faces, and room for four.
 const DRAWN: [usize; 4] = [330, 22, 27, 13];
@@ -46,6 +49,15 @@ pub fn stroke_rows() -> Vec<String> {
     let mut all = Vec::new();
     all.extend(made(&mut random, simplify_row));
     all.extend(made(&mut random, adaptive_row));
+    all
+}
+
+/// Every row that `replay_sheets` is run on, the same each time. They have numbers of their own.
+pub fn sheet_rows() -> Vec<String> {
+    let mut random = Random::new(5);
+    let mut all = Vec::new();
+    all.extend(made(&mut random, write_sheet_row));
+    all.extend(made(&mut random, read_sheet_row));
     all
 }
 
@@ -144,4 +156,25 @@ fn adaptive_row(random: &mut Random) -> Option<Vec<u64>> {
     let numbers = reals(&input.matrix).chain([input.width, input.height, input.step, input.tolerance].map(bits));
     let lists = numbers.chain(reals(&input.points)).chain(words(&input.starts)).collect();
     row(2, &[input.points.len(), input.starts.len()], lists, &adaptive::judged(&input), 3)
+}
+
+fn write_sheet_row(random: &mut Random) -> Option<Vec<u64>> {
+    let input = write_sheet::Input { lent: write_sheet::lent(vec![7; LENT]), ..write_sheet::make(random) };
+    let left = write_sheet::judged(&input);
+    let sizes = [input.numbers.len(), input.starts.len()].map(|n| n as u64);
+    let mut row = [[1, left.status as u64], sizes, [input.mode as u64, input.vertices as u64]].concat();
+    row.extend(words(&input.numbers).chain(words(&input.starts)));
+    if let [count] = left.counts[..] {
+        row.push(count as u64);
+        row.extend(left.lent.points[..count].iter().map(|&b| b as u64));
+    }
+    Some(row).filter(|_| input.numbers.len() < LENT && input.starts.len() < LENT)
+}
+
+fn read_sheet_row(random: &mut Random) -> Option<Vec<u64>> {
+    let [points, starts] = READ;
+    let lent = Lent { scratch: vec![], numbers: vec![], points: vec![7; points], starts: vec![7; starts] };
+    let input = read_sheet::Input { lent, ..read_sheet::make(random) };
+    let bytes = input.bytes.iter().map(|&b| b as u64).collect();
+    row(2, &[input.bytes.len()], bytes, &read_sheet::judged(&input), 1)
 }

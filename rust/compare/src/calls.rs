@@ -8,11 +8,13 @@ pub mod adaptive;
 pub mod chop;
 pub mod draw;
 pub mod mesh;
+pub mod read_sheet;
 pub mod section;
 pub mod simplify;
 pub mod splice;
 pub mod strokes;
 pub mod weld;
+pub mod write_sheet;
 
 use crate::random::Random;
 use crate::runs::Seen;
@@ -87,6 +89,8 @@ pub const LINKED: &[Linked] = &[
     Linked { name: "weld", run: weld::run },
     Linked { name: "section", run: section::run },
     Linked { name: "draw", run: draw::run },
+    Linked { name: "write_sheet", run: write_sheet::run },
+    Linked { name: "read_sheet", run: read_sheet::run },
 ];
 
 /// Runs a call on the inputs that are tried always and on `count` random ones, and compares all that the port leaves.

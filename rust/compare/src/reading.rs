@@ -9,6 +9,7 @@ pub const SCRATCH: u32 = 5;
 pub const ROOM: u32 = 6;
 pub const FLAT: u32 = 7;
 pub const DEEP: u32 = 8;
+pub const SHEET: u32 = 9;
 
 const MOST_FACES: usize = 65_536;
 const MOST_VERTICES: usize = 196_608;
@@ -151,4 +152,53 @@ pub fn section(vertices: &[f64], indices: &[u32], plane: &[f64; 6], tolerance: f
         (in_ranges && tolerance > 0.0 && tolerance < 1.0, NUMBER),
         (lent[0] >= 6 * faces && lent[1] >= faces, ROOM),
     ])
+}
+
+/// What writing a sheet is refused for, by the sheet's length and the room for it. A table at fault has no length.
+pub fn write_sheet(mode: u32, vertices: u32, numbers: &[u32], starts: &[u32], room: usize) -> u32 {
+    let length = || 24 + 4 * non_empty(starts, numbers.len()).len() + 4 * numbers.len();
+    let (points, strokes) = (numbers.len(), starts.len());
+    if !is_table(starts, points) {
+        return SHAPE;
+    }
+    first(&[
+        (points <= MOST_POINTS && strokes <= MOST_STROKES && vertices as usize <= MOST_VERTICES, COUNT),
+        (numbers.iter().all(|&v| v < vertices), VERTEX),
+        (mode <= 3, NUMBER),
+        (room >= length(), ROOM),
+    ])
+}
+
+/// The starts of those strokes of a good table that have points.
+pub fn non_empty(starts: &[u32], points: usize) -> Vec<u32> {
+    let mut kept: Vec<u32> = starts.iter().copied().filter(|&s| (s as usize) < points).collect();
+    kept.dedup();
+    kept
+}
+
+/// A sheet taken apart.
+#[derive(Clone, PartialEq, Debug)]
+pub struct Sheet {
+    pub mode: u32,
+    pub vertices: u32,
+    pub starts: Vec<u32>,
+    pub numbers: Vec<u32>,
+}
+
+/// The sheet that bytes are, if they are one.
+pub fn sheet(bytes: &[u8]) -> Option<Sheet> {
+    let words: Vec<u32> = bytes.chunks_exact(4).map(|b| u32::from_le_bytes([b[0], b[1], b[2], b[3]])).collect();
+    let &[mode, vertices, strokes, points, to_starts, to_points, ref rest @ ..] = &words[..] else { return None };
+    let (strokes, points) = (strokes as usize, points as usize);
+    let counted = vertices as usize <= MOST_VERTICES && strokes <= MOST_STROKES && points <= MOST_POINTS;
+    let placed = to_starts == 24 && to_points as usize == 24 + 4 * strokes;
+    let whole = bytes.len().is_multiple_of(4) && rest.len() == strokes + points;
+    if !((1..=3).contains(&mode) && counted && placed && whole) {
+        return None;
+    }
+    let (starts, numbers) = rest.split_at(strokes);
+    let rise = starts.windows(2).all(|w| w[0] < w[1]) && starts.iter().all(|&s| (s as usize) < points);
+    let begin = starts.first().map_or(points == 0, |&first| first == 0);
+    let known = numbers.iter().all(|&v| v < vertices);
+    (rise && begin && known).then(|| Sheet { mode, vertices, starts: starts.to_vec(), numbers: numbers.to_vec() })
 }

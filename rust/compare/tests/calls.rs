@@ -1,7 +1,7 @@
 //! The judge of the calls on buffers: the worked cases of the rules, by the original, and what must hold of all answers.
 #![cfg(original)]
 
-use compare::calls::{Left, Lent, adaptive, chop, draw, section, simplify, splice, weld};
+use compare::calls::{Left, Lent, adaptive, chop, draw, read_sheet, section, simplify, splice, weld, write_sheet};
 use compare::random::Random;
 
 /// Room for plenty, with something in it.
@@ -168,6 +168,24 @@ fn random_inputs_meet_every_refusal_that_they_can() {
     assert_eq!(met(weld::make, weld::judged), [0, 1, 4, 5, 6]);
     assert_eq!(met(draw::make, draw::judged), [0, 1, 3, 4, 5, 6, 7]);
     assert_eq!(met(section::make, section::judged), [0, 1, 3, 4, 6]);
+    assert_eq!(met(write_sheet::make, write_sheet::judged), [0, 1, 2, 3, 4, 6]);
+    assert_eq!(met(read_sheet::make, read_sheet::judged), [0, 6, 9]);
+}
+
+/// The sheet of [1,0,2,1] with 3 vertices, written and read by the rules alone; mode 0 is stored as 1, an empty stroke is not.
+#[test]
+fn the_sheet_of_the_rules() {
+    let words = [1, 3, 1, 4, 24, 28, 0, 1, 0, 2, 1u32];
+    let bytes: Vec<u8> = words.iter().flat_map(|word| word.to_le_bytes()).collect();
+    for (mode, starts) in [(1, vec![0]), (0, vec![0]), (1, vec![0, 0, 4])] {
+        let lent = write_sheet::lent(vec![9; 44]);
+        let left =
+            write_sheet::judged(&write_sheet::Input { mode, vertices: 3, numbers: vec![1, 0, 2, 1], starts, lent });
+        assert_eq!((left.status, left.counts, left.lent.points), (0, vec![44], bytes.clone()));
+    }
+    let left = read_sheet::judged(&read_sheet::Input { bytes, lent: plenty(5) });
+    assert_eq!(left.counts, [4, 1, 1, 3]);
+    assert_eq!((&left.lent.points[..4], left.lent.starts[0]), (&[1, 0, 2, 1][..], 0));
 }
 
 #[test]

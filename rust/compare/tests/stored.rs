@@ -56,8 +56,10 @@ fn a_damaged_answer_is_seen() {
 #[test]
 #[cfg(original)]
 fn the_stored_rows_are_the_makers() {
-    for (words, program) in [(&[][..], "replay"), (&["strokes"][..], "replay_strokes"), (&["meshes"][..], "replay_meshes")] {
-        let made = std::process::Command::new(env!("CARGO_BIN_EXE_rows")).args(words).output().unwrap();
+    let programs =
+        [("", "replay"), ("strokes", "replay_strokes"), ("meshes", "replay_meshes"), ("sheets", "replay_sheets")];
+    for (word, program) in programs {
+        let made = std::process::Command::new(env!("CARGO_BIN_EXE_rows")).arg(word).output().unwrap();
         assert!(made.status.success());
         assert_eq!(String::from_utf8(made.stdout).unwrap(), stored_for(program));
     }

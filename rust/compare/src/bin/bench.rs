@@ -32,6 +32,13 @@ fn main() {
     for call in calls::WORST.iter().filter(|call| call.name.starts_with(&word)) {
         println!("{}", compare::bench::time(call, RUNS).line());
     }
+    println!("\n## Sheets\n");
+    println!("The original has none. The drawing of the torus in triangles is written and read; growth as above.\n");
+    println!("| call | bytes | port, ms | MB a second | growth |");
+    println!("|---|---|---|---|---|");
+    for call in calls::SHEETS.iter().filter(|call| call.name.starts_with(&word)) {
+        println!("{}", compare::bench::rate(call, RUNS));
+    }
 }
 
 #[cfg(original)]
@@ -39,7 +46,7 @@ const RUNS: usize = 25;
 
 #[cfg(original)]
 mod calls {
-    use compare::bench::{Call, best};
+    use compare::bench::{Call, Rated, best};
     use compare::torus::Mesh;
     use original::eps_1e9::{
         matrix::Matrix, mesh, mesh::MeshTexture, path::Paths, plane::Plane, shape::RenderArgs, shape::Shape,
@@ -185,6 +192,10 @@ mod calls {
             original: |mesh, runs| paths_of(&mesh.apart(), SILHOUETTE, &[], runs),
         },
     ];
+
+    /// What the original lacks.
+    pub const SHEETS: &[Rated] =
+        &[Rated { name: "write_sheet", port: write_sheet_port }, Rated { name: "read_sheet", port: read_sheet_port }];
 
     /// As many edges as the mesh has, by a rule on their number.
     fn made_edges(mesh: &Mesh, edge: impl Fn(u32, u32) -> [u32; 2]) -> Vec<[u32; 2]> {
@@ -335,8 +346,7 @@ mod calls {
     /// Every sixteenth vertex, in strokes of 64 points, and a step that cuts a span into some twenty.
     fn long_spans(mesh: &Mesh) -> (Vec<Vector>, f64) {
         let points: Vec<Vector> = mesh.vertices.iter().step_by(16).map(|&[x, y, z]| Vector::new(x, y, z)).collect();
-        let total: f64 =
-            points.chunks(64).flat_map(|some| some.windows(2).map(|w| w[0].distance(w[1]))).sum();
+        let total: f64 = points.chunks(64).flat_map(|some| some.windows(2).map(|w| w[0].distance(w[1]))).sum();
         let step = total / (20 * points.len()) as f64;
         (points, step)
     }
@@ -511,6 +521,34 @@ mod calls {
         best(runs, || {
             black_box(mesh.paths(&args));
         })
+    }
+
+    /// The strokes of the mesh in triangles, and room for their sheet.
+    fn drawing(mesh: &Mesh) -> (ramikohy::Strokes<u32>, Vec<u8>) {
+        let mesh = ramikohy::Mesh { vertices: mesh.vertices.clone(), faces: mesh.faces.clone() };
+        let strokes = ramikohy::draw(&mesh, &[], TRIANGLES, EYE, 1e-9).unwrap();
+        let sheet = ramikohy::write_sheet(1, mesh.vertices.len() as u32, &strokes).unwrap();
+        (strokes, sheet)
+    }
+
+    fn write_sheet_port(mesh: &Mesh, runs: usize) -> (usize, f64) {
+        let (strokes, mut sheet) = drawing(mesh);
+        let (count, points, starts) = (mesh.vertices.len() as u32, strokes.points(), strokes.starts());
+        let seconds = best(runs, || {
+            lent::write_sheet(1, count, points, starts, &mut sheet).unwrap();
+            black_box(&mut sheet);
+        });
+        (sheet.len(), seconds)
+    }
+
+    fn read_sheet_port(mesh: &Mesh, runs: usize) -> (usize, f64) {
+        let (strokes, sheet) = drawing(mesh);
+        let (mut points, mut starts) = (strokes.points().to_vec(), strokes.starts().to_vec());
+        let seconds = best(runs, || {
+            lent::read_sheet(&sheet, &mut points, &mut starts).unwrap();
+            black_box((&mut points, &mut starts));
+        });
+        (sheet.len(), seconds)
     }
 
     /// A slanted plane through the torus.

@@ -1,6 +1,6 @@
 //! Makes the stored rows, the same each time: `rows > crates/replay/stdin` those of the arithmetic, of chop and of splice,
 //! `rows strokes > crates/replay_strokes/stdin` those of simplify and chop_adaptive, `rows meshes > crates/replay_meshes/stdin`
-//! those of draw, weld and section.
+//! those of draw, weld and section, `rows sheets > crates/replay_sheets/stdin` those of write_sheet and read_sheet.
 
 #[cfg(not(original))]
 fn main() {
@@ -15,6 +15,7 @@ fn main() {
     let lines = match std::env::args().nth(1).as_deref() {
         Some("strokes") => compare::call_rows::stroke_rows(),
         Some("meshes") => compare::call_rows::mesh_rows(),
+        Some("sheets") => compare::call_rows::sheet_rows(),
         _ => made::rows().into_iter().chain(compare::call_rows::rows()).collect(),
     };
     for line in lines {
