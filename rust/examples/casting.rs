@@ -125,7 +125,7 @@ fn kept(mesh: &Mesh, mode: Mode) -> Vec<[u32; 2]> {
         (Mode::Triangles, _) | (Mode::Polygonal, [_]) => true,
         (Mode::Polygonal, _) => group[1..].iter().any(|&f| cosine(group[0], f) < 1.0 - TOLERANCE),
         (Mode::Silhouette(least), &[f, g]) => {
-            least > 0.0 && !(cosine(f, g) > least) || faces_eye(f) * faces_eye(g) <= 0.0
+            least > 0.0 && cosine(f, g) <= least || faces_eye(f) * faces_eye(g) <= 0.0
         }
         (Mode::Silhouette(_), _) => true,
     };
