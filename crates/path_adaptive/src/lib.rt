@@ -216,7 +216,8 @@ fn measure(
     measure(view, m.here, m.seen, b, b_seen, depth - 1, l)
 }
 
-// Writes the points of the walk of a span, where it does not end too deep.
+// Writes the points of the walk of a span from place o on, where it does not end too deep, and counts the halvings:
+// one point more than halvings is written, so the count alone says where the next goes.
 fn halve(
     view: View,
     a: Vector,
@@ -225,14 +226,12 @@ fn halve(
     b_seen: Vector,
     depth: u32,
     out: &mut [f64],
-    k: Cut,
-) -> Cut
-    requires { ⌜ (walk depth view (record { here = a; seen = «a_seen» }) (record { here = b; seen = «b_seen» }) .deep ≡ false) × (k .points + length (walk depth view (record { here = a; seen = «a_seen» }) (record { here = b; seen = «b_seen» }) .points) ≤ mostPoints) × (k .halvings + walk depth view (record { here = a; seen = «a_seen» }) (record { here = b; seen = «b_seen» }) .halvings ≤ mostPoints) ⌝ }
-    ensures { λ r. ⌜ (pen (now (out .exit)) (r .points) ≡ inked putPoints (pen (now (out .entry)) (k .points)) (walk depth view (record { here = a; seen = «a_seen» }) (record { here = b; seen = «b_seen» }) .points))
-        × (r .halvings ≡ k .halvings + walk depth view (record { here = a; seen = «a_seen» }) (record { here = b; seen = «b_seen» }) .halvings) ⌝ }
+    o: usize,
+) -> usize
+    requires { ⌜ (walk depth view (record { here = a; seen = «a_seen» }) (record { here = b; seen = «b_seen» }) .deep ≡ false) × (o + length (walk depth view (record { here = a; seen = «a_seen» }) (record { here = b; seen = «b_seen» }) .points) ≤ mostPoints) ⌝ }
+    ensures { λ r. ⌜ (pen (now (out .exit)) (o + r + 1) ≡ inked putPoints (pen (now (out .entry)) o) (walk depth view (record { here = a; seen = «a_seen» }) (record { here = b; seen = «b_seen» }) .points))
+        × (r ≡ walk depth view (record { here = a; seen = «a_seen» }) (record { here = b; seen = «b_seen» }) .halvings) ⌝ }
 {
-    let o = k.points;
-    let h = k.halvings;
     let p = Shown {
         here: a,
         seen: a_seen,
@@ -243,21 +242,15 @@ fn halve(
     };
     if ends(view, p, q) {
         put_point(out, o, b);
-        return Cut {
-            points: o + 1,
-            halvings: h,
-        };
+        return 0;
     }
     if depth == 0 {
-        return k;
+        return 0;
     }
     let m = middle(view, p, q);
-    let c = Cut {
-        points: o,
-        halvings: h + 1,
-    };
-    let l = halve(view, a, a_seen, m.here, m.seen, depth - 1, out, c);
-    halve(view, m.here, m.seen, b, b_seen, depth - 1, out, l)
+    let l = halve(view, a, a_seen, m.here, m.seen, depth - 1, out, o);
+    let r = halve(view, m.here, m.seen, b, b_seen, depth - 1, out, o + l + 1);
+    l + r + 1
 }
 
 // What the spans over the points from place i up to e meet, after the point before them.
@@ -324,7 +317,11 @@ fn write_spans(
     let mut c = k;
     while j < e {
         let q = show(view, point_at(points, j));
-        c = halve(view, p.here, p.seen, q.here, q.seen, 64, out, c);
+        let h = halve(view, p.here, p.seen, q.here, q.seen, 64, out, c.points);
+        c = Cut {
+            points: c.points + h + 1,
+            halvings: c.halvings + h,
+        };
         p = q;
         j += 1;
     }
