@@ -115,7 +115,7 @@ count-half l r f g h =
     let y = g (b .calm-after) in
     omega (arith, b .length-is, b .halvings-are)
 
-walk-count : (view : View) (d : ℕ) (a b : Shown) → Counted 1 (walk d view a b)
+pub walk-count : (view : View) (d : ℕ) (a b : Shown) → Counted 1 (walk d view a b)
 unfolding walk
 walk-count view zero a b = count-cond 1 (endsOf view a b) (one (b .here)) stuck (λ h. refl) (λ h. absurd (true≢false h))
 walk-count view (suc d) a b =

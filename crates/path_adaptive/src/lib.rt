@@ -182,49 +182,75 @@ fn begin(t: Tally) -> Tally
 }
 
 // What the walk of a span meets, left half first, with a falling depth. Nothing is looked at after a refusal.
-fn measure(view: View, a: Shown, b: Shown, depth: u32, t: Tally) -> Tally
-    ensures { λ r. ⌜ r ≡ spent t (walk depth view a b) ⌝ }
+// The ends come as four vectors: a pair is copied in sixteen bytes that lie across what was just stored, and waits.
+fn measure(
+    view: View,
+    a: Vector,
+    a_seen: Vector,
+    b: Vector,
+    b_seen: Vector,
+    depth: u32,
+    t: Tally,
+) -> Tally
+    ensures { λ r. ⌜ r ≡ spent t (walk depth view (record { here = a; seen = «a_seen» }) (record { here = b; seen = «b_seen» })) ⌝ }
 {
     if stopped(t) {
         return t;
     }
-    if ends(view, a, b) {
+    let p = Shown {
+        here: a,
+        seen: a_seen,
+    };
+    let q = Shown {
+        here: b,
+        seen: b_seen,
+    };
+    if ends(view, p, q) {
         return spend(t);
     }
     if depth == 0 {
         return Tally::Met(Refusal::Deep);
     }
-    let m = middle(view, a, b);
-    let l = measure(view, a, m, depth - 1, t);
-    measure(view, m, b, depth - 1, l)
+    let m = middle(view, p, q);
+    let l = measure(view, a, a_seen, m.here, m.seen, depth - 1, t);
+    measure(view, m.here, m.seen, b, b_seen, depth - 1, l)
 }
 
-// Writes the points of the walk of a span, where it does not end too deep.
-fn halve(view: View, a: Shown, b: Shown, depth: u32, out: &mut [f64], k: Cut) -> Cut
-    requires { ⌜ (walk depth view a b .deep ≡ false) × (k .points + length (walk depth view a b .points) ≤ mostPoints) × (k .halvings + walk depth view a b .halvings ≤ mostPoints) ⌝ }
-    ensures { λ r. ⌜ (pen (now (out .exit)) (r .points) ≡ inked putPoints (pen (now (out .entry)) (k .points)) (walk depth view a b .points))
-        × (r .halvings ≡ k .halvings + walk depth view a b .halvings) ⌝ }
+// Writes the points of the walk of a span from place o on, where it does not end too deep, and counts the halvings:
+// one point more than halvings is written, so the count alone says where the next goes.
+fn halve(
+    view: View,
+    a: Vector,
+    a_seen: Vector,
+    b: Vector,
+    b_seen: Vector,
+    depth: u32,
+    out: &mut [f64],
+    o: usize,
+) -> usize
+    requires { ⌜ (walk depth view (record { here = a; seen = «a_seen» }) (record { here = b; seen = «b_seen» }) .deep ≡ false) × (o + length (walk depth view (record { here = a; seen = «a_seen» }) (record { here = b; seen = «b_seen» }) .points) ≤ mostPoints) ⌝ }
+    ensures { λ r. ⌜ (pen (now (out .exit)) (o + r + 1) ≡ inked putPoints (pen (now (out .entry)) o) (walk depth view (record { here = a; seen = «a_seen» }) (record { here = b; seen = «b_seen» }) .points))
+        × (r ≡ walk depth view (record { here = a; seen = «a_seen» }) (record { here = b; seen = «b_seen» }) .halvings) ⌝ }
 {
-    let o = k.points;
-    let h = k.halvings;
-    if ends(view, a, b) {
-        let v = b.here;
-        put_point(out, o, v);
-        return Cut {
-            points: o + 1,
-            halvings: h,
-        };
+    let p = Shown {
+        here: a,
+        seen: a_seen,
+    };
+    let q = Shown {
+        here: b,
+        seen: b_seen,
+    };
+    if ends(view, p, q) {
+        put_point(out, o, b);
+        return 0;
     }
     if depth == 0 {
-        return k;
+        return 0;
     }
-    let m = middle(view, a, b);
-    let c = Cut {
-        points: o,
-        halvings: h + 1,
-    };
-    let l = halve(view, a, m, depth - 1, out, c);
-    halve(view, m, b, depth - 1, out, l)
+    let m = middle(view, p, q);
+    let l = halve(view, a, a_seen, m.here, m.seen, depth - 1, out, o);
+    let r = halve(view, m.here, m.seen, b, b_seen, depth - 1, out, o + l + 1);
+    l + r + 1
 }
 
 // What the spans over the points from place i up to e meet, after the point before them.
@@ -236,7 +262,7 @@ fn measure_spans(view: View, points: &[f64], i: usize, e: usize, first: Shown, t
     let mut s = t;
     while j < e {
         let q = show(view, point_at(points, j));
-        s = measure(view, p, q, 64, s);
+        s = measure(view, p.here, p.seen, q.here, q.seen, 64, s);
         p = q;
         j += 1;
     }
@@ -291,7 +317,11 @@ fn write_spans(
     let mut c = k;
     while j < e {
         let q = show(view, point_at(points, j));
-        c = halve(view, p, q, 64, out, c);
+        let h = halve(view, p.here, p.seen, q.here, q.seen, 64, out, c.points);
+        c = Cut {
+            points: c.points + h + 1,
+            halvings: c.halvings + h,
+        };
         p = q;
         j += 1;
     }

@@ -1,5 +1,6 @@
 -- `measure` meets its contract.
 use borrow.Author.Needs.{needs}
+use Rattle.path_adaptive.specs.declared.Shown.{Shown}
 use Rattle.path_adaptive.specs.declared.Tally.{Tally}
 use Rattle.path_adaptive.proofs.Walks.{walk-ends, walk-stuck, walk-half}
 use Rattle.path_adaptive.proofs.Tallies.{spent-stop, spent-one, spent-stuck, spent-join, spent-halved}
@@ -22,7 +23,7 @@ use Rattle.path_adaptive.proofs.+measure.{statement}
 use Rattle.path_adaptive.proofs.+measure.Tie.{close}
 
 abbrev μ-measure : Measures 0 measure-kinds.ps ℕ
-μ-measure κs a = a .1 .1 .1 .0
+μ-measure κs a = a .1 .1 .1 .1 .1 .0
 
 abbrev measure-at : ℕ → In 0 measure-kinds.ps
 measure-at t = and 0 measure-kinds.ps (is 0 measure-kinds.ps μ-measure t) measure.Pre
@@ -48,12 +49,16 @@ measure-spend-requires t c κs = search needs
 measure-returns-2 : (t : ℕ) → measure-lts.Need-returns-2 (claims t) (measure-at t) measure.Post
 measure-returns-2 t c =
     let a = c .before .before .before .before .before .args in
-    c .spend .ensures ∙ spent-one (a .t) (a .b .here) _ (walk-ends (a .view) (a .a) (a .b) (a .depth) (sym (c .before .before .ends .ensures) ∙ c .before .if2 .taken))
+    let p : Shown = record { here = a .a; seen = a .a-seen } in
+    let q : Shown = record { here = a .b; seen = a .b-seen } in
+    c .spend .ensures ∙ spent-one (a .t) (a .b) _ (walk-ends (a .view) p q (a .depth) (sym (c .before .before .ends .ensures) ∙ c .before .if2 .taken))
 
 measure-returns-3 : (t : ℕ) → measure-lts.Need-returns-3 (claims t) (measure-at t) measure.Post
 measure-returns-3 t c =
     let a = c .before .before .before .before .before .args in
-    spent-stuck (a .t) _ (walk-stuck (a .view) (a .a) (a .b) (a .depth) (sym (c .before .before .ends .ensures) ∙ c .before .if2 .left) (c .if3 .taken)) (sym (c .before .before .before .before .stopped .ensures) ∙ c .before .before .before .if1 .left)
+    let p : Shown = record { here = a .a; seen = a .a-seen } in
+    let q : Shown = record { here = a .b; seen = a .b-seen } in
+    spent-stuck (a .t) _ (walk-stuck (a .view) p q (a .depth) (sym (c .before .before .ends .ensures) ∙ c .before .if2 .left) (c .if3 .taken)) (sym (c .before .before .before .before .stopped .ensures) ∙ c .before .before .before .if1 .left)
 
 measure-middle-requires : (t : ℕ) → measure-lts.Need-middle-requires (claims t) (measure-at t) measure.Post
 measure-middle-requires t c κs = search needs
@@ -73,10 +78,12 @@ measure-measure-requires-2 t c κs = omega arith
 measure-returns-4 : (t : ℕ) → measure-lts.Need-returns-4 (claims t) (measure-at t) measure.Post
 measure-returns-4 t c =
     let a = c .before .before .before .before .before .before .before .before .args in
+    let p : Shown = record { here = a .a; seen = a .a-seen } in
+    let q : Shown = record { here = a .b; seen = a .b-seen } in
     let m = c .before .before .middle .result in
-    let l = walk (a .depth - 1) (a .view) (a .a) m in
-    let r = walk (a .depth - 1) (a .view) m (a .b) in
-    let w = walk-half (a .view) (a .a) (a .b) (a .depth) m (sym (c .before .before .before .before .before .ends .ensures) ∙ c .before .before .before .before .if2 .left) (c .before .before .before .if3 .left) (c .before .before .middle .ensures) in
+    let l = walk (a .depth - 1) (a .view) p m in
+    let r = walk (a .depth - 1) (a .view) m q in
+    let w = walk-half (a .view) p q (a .depth) m (sym (c .before .before .before .before .before .ends .ensures) ∙ c .before .before .before .before .if2 .left) (c .before .before .before .if3 .left) (c .before .before .middle .ensures) in
     c .measure2 .ensures ∙ ap (λ (x : Tally). spent x r) (c .before .measure .ensures) ∙ spent-join (a .t) l r (join l r) refl ∙ sym (spent-halved (a .t) (join l r)) ∙ ap (spent (a .t)) (sym w)
 
 pub +measure-spec : {M : Type 1} → statement M

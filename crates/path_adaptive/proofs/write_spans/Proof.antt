@@ -4,7 +4,7 @@ use Rattle.path.proofs.Points.{points-lie}
 use Rattle.path.proofs.Pushes.{ink-at, ink-none}
 use Rattle.path.specs.Laid.{putPoints, pen, inked, out}
 use Rattle.path.specs.Strokes.{pointAt, gather}
-use Rattle.path_adaptive.proofs.Walks.{join-both, both-ink, from-more, from-none}
+use Rattle.path_adaptive.proofs.Walks.{join-both, both-ink, from-more, from-none, walk-count}
 use Rattle.path_adaptive.specs.Walk.{shownOf, Walk, walkFrom}
 use mathlib.Core.Bool.{false}
 use lib.ListN.{length}
@@ -38,7 +38,37 @@ halve-requires c κs =
     let q = c .before .show .ensures ∙ ap (shownOf (a .view)) (c .before .before .point-at .ensures) in
     let m = from-more (a .view) (pointAt (a .points .now)) (l .loop .j) (a .e) (l .loop .p) _ (search needs) q in
     let b = join-both _ _ _ m (l .loop .inv .0) in
-    (b .calm, omega (arith, c .before .before .before .before .before .before .before .pre .1, b .length-is, ink-at putPoints (pen (l .loop .out) (l .loop .c .points)) (pen (a .out .now) (a .k .points)) _ _ (l .loop .inv .2)), omega (arith, c .before .before .before .before .before .before .before .pre .2, b .halvings-are, l .loop .inv .3))
+    (b .calm, omega (arith, l .before .before .before .pre .1, b .length-is, ink-at putPoints (pen (l .loop .out) (l .loop .c .points)) (pen (a .out .now) (a .k .points)) _ _ (l .loop .inv .2)))
+
+add-t17 : tie.Need-add-t17 Inv-loop μ-loop
+add-t17 c =
+    let l = c .before .before .before .before .before .before .before .before in
+    let a = l .before .before .before .args in
+    let q = c .before .before .before .before .before .show .ensures ∙ ap (shownOf (a .view)) (c .before .before .before .before .before .before .point-at .ensures) in
+    let m = from-more (a .view) (pointAt (a .points .now)) (l .loop .j) (a .e) (l .loop .p) _ (search needs) q in
+    let b = join-both _ _ _ m (l .loop .inv .0) in
+    let n = walk-count (a .view) 64 (l .loop .p) (c .before .before .before .before .before .show .result) (b .calm) in
+    omega (arith, l .before .before .before .pre .1, b .length-is, n, c .before .before .before .halve .ensures .1, ink-at putPoints (pen (l .loop .out) (l .loop .c .points)) (pen (a .out .now) (a .k .points)) _ _ (l .loop .inv .2))
+
+add-t18 : tie.Need-add-t18 Inv-loop μ-loop
+add-t18 c =
+    let l = c .before .before .before .before .before .before .before .before in
+    let a = l .before .before .before .args in
+    let q = c .before .before .before .before .before .show .ensures ∙ ap (shownOf (a .view)) (c .before .before .before .before .before .before .point-at .ensures) in
+    let m = from-more (a .view) (pointAt (a .points .now)) (l .loop .j) (a .e) (l .loop .p) _ (search needs) q in
+    let b = join-both _ _ _ m (l .loop .inv .0) in
+    let n = walk-count (a .view) 64 (l .loop .p) (c .before .before .before .before .before .show .result) (b .calm) in
+    omega (arith, l .before .before .before .pre .1, b .length-is, n, c .before .before .before .halve .ensures .1, ink-at putPoints (pen (l .loop .out) (l .loop .c .points)) (pen (a .out .now) (a .k .points)) _ _ (l .loop .inv .2))
+
+add-t19 : tie.Need-add-t19 Inv-loop μ-loop
+add-t19 c =
+    let l = c .before .before .before .before .before .before .before .before .before in
+    let a = l .before .before .before .args in
+    let q = c .before .before .before .before .before .before .show .ensures ∙ ap (shownOf (a .view)) (c .before .before .before .before .before .before .before .point-at .ensures) in
+    let m = from-more (a .view) (pointAt (a .points .now)) (l .loop .j) (a .e) (l .loop .p) _ (search needs) q in
+    let b = join-both _ _ _ m (l .loop .inv .0) in
+    let n = walk-count (a .view) 64 (l .loop .p) (c .before .before .before .before .before .before .show .result) (b .calm) in
+    omega (arith, l .before .before .before .pre .2, b .halvings-are, c .before .before .before .before .halve .ensures .1, l .loop .inv .3)
 
 add-j : tie.Need-add-j Inv-loop μ-loop
 add-j c = omega arith
@@ -48,12 +78,12 @@ loop-less c = omega arith
 
 loop-again : tie.Need-loop-again Inv-loop μ-loop
 loop-again c =
-    let l = c .before .before .before .before .before .before .before in
+    let l = c .before .before .before .before .before .before .before .before .before in
     let a = l .before .before .before .args in
-    let q = c .before .before .before .before .show .ensures ∙ ap (shownOf (a .view)) (c .before .before .before .before .before .point-at .ensures) in
+    let q = c .before .before .before .before .before .before .show .ensures ∙ ap (shownOf (a .view)) (c .before .before .before .before .before .before .before .point-at .ensures) in
     let m = from-more (a .view) (pointAt (a .points .now)) (l .loop .j) (a .e) (l .loop .p) _ (search needs) q in
     let b = join-both _ _ _ m (l .loop .inv .0) in
-    (b .calm-after, cc, both-ink b (pen (l .loop .out) (l .loop .c .points)) _ _ (c .before .before .halve .ensures .0) refl ∙ l .loop .inv .2, omega (arith, b .halvings-are, c .before .before .halve .ensures .1, l .loop .inv .3))
+    (b .calm-after, cc, both-ink b (pen (l .loop .out) (l .loop .c .points)) _ _ (c .before .before .before .before .halve .ensures .0) refl ∙ l .loop .inv .2, omega (arith, b .halvings-are, c .before .before .before .before .halve .ensures .1, l .loop .inv .3))
 
 same-length : tie.Need-same-length Inv-loop μ-loop
 same-length c = search needs
@@ -76,6 +106,9 @@ write-spans-spec =
     point-at-requires
     show-requires
     halve-requires
+    add-t17
+    add-t18
+    add-t19
     add-j
     loop-less
     loop-again
