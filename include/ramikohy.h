@@ -95,6 +95,12 @@ uint32_t ramikohy_read_sheet(const uint8_t *bytes, size_t bytes_len, uint32_t *o
                              uint32_t *out_starts, size_t out_starts_len, size_t *point_count, size_t *start_count,
                              uint32_t *mode, uint32_t *vertices);
 
+/* The reader over a list of strokes of vertex numbers: how many are left from stroke i on, 0 where none is; the place of stroke i's
+ * first point among `points`; and how many points it has, 0 of an empty one. */
+size_t ramikohy_strokes_left(const uint32_t *starts, size_t starts_len, size_t i);
+size_t ramikohy_stroke_first(const uint32_t *points, size_t points_len, const uint32_t *starts, size_t starts_len, size_t i);
+size_t ramikohy_stroke_length(const uint32_t *points, size_t points_len, const uint32_t *starts, size_t starts_len, size_t i);
+
 #ifdef __cplusplus
 }
 #endif

@@ -158,4 +158,19 @@ unsafe extern "C" {
         mode: *mut u32,
         vertices: *mut u32,
     ) -> u32;
+    pub fn ramikohy_strokes_left(starts: *const u32, starts_len: usize, i: usize) -> usize;
+    pub fn ramikohy_stroke_first(
+        points: *const u32,
+        points_len: usize,
+        starts: *const u32,
+        starts_len: usize,
+        i: usize,
+    ) -> usize;
+    pub fn ramikohy_stroke_length(
+        points: *const u32,
+        points_len: usize,
+        starts: *const u32,
+        starts_len: usize,
+        i: usize,
+    ) -> usize;
 }

@@ -21,6 +21,7 @@ pub mod lent;
 mod matrix;
 mod mesh;
 mod number;
+mod reader;
 mod refusal;
 mod strokes;
 mod vector;
@@ -33,6 +34,7 @@ pub use calls::{chop::chop, section::section, simplify::simplify, splice::splice
 pub use matrix::Matrix;
 pub use mesh::{Mesh, Plane};
 pub use number::{abs, floor, sqrt};
+pub use reader::Reader;
 pub use refusal::Refusal;
 pub use strokes::{Strokes, strokes};
 pub use vector::Vector;

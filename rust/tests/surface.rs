@@ -43,7 +43,7 @@ fn by_c(parameter: &str) -> Vec<String> {
 fn like_rust(text: &str, head: &str, end: &str) -> Surface {
     let mut surface = Surface::new();
     for part in parts(text, head, end) {
-        let (name, parameters, rest) = taken_apart(part);
+        let (name, parameters, rest) = taken_apart(&part.replace("<'a>", "").replace("&'a ", "&"));
         let mut words: Vec<String> = parameters.iter().flat_map(|p| by_c(p)).collect();
         words.push(rest.trim_start_matches("->").trim().to_string());
         surface.insert(name, words);
@@ -95,7 +95,7 @@ fn header() -> Surface {
 
 #[test]
 fn the_three_languages_name_the_same_functions() {
-    let files = ["lib", "strokes", "meshes", "sheets"];
+    let files = ["lib", "strokes", "meshes", "sheets", "reader"];
     let source = files.map(|file| read(&format!("crates/ramikohy/src/{file}.rt"))).concat();
     let rattle = like_rust(&source, "pub extern \"C\" fn ", "\n    ensures");
     let rust = like_rust(&read("rust/src/c.rs"), "pub fn ", ";\n");

@@ -4,7 +4,7 @@ use path::end_of;
 ghost use mathlib.Core.Path.{_≡_};
 ghost use Prim.Native.Nat.{_≤_};
 ghost use lib.ListN.{getD};
-ghost use Rattle.path_reader.specs.Reading.{least, Own, leftAt, after};
+ghost use Rattle.path_reader.specs.Reading.{least, firstAt, Own, leftAt, after};
 
 // The lent points and starts, and the number of the stroke that comes next.
 pub struct Reader<'a> {
@@ -32,6 +32,15 @@ fn start_of(starts: &[u32], i: usize, n: usize) -> usize
         return starts[i] as usize;
     }
     n
+}
+
+// The place of stroke i's first point; that of an empty stroke lies within the points too.
+pub fn first_at(points: &[u32], starts: &[u32], i: usize) -> usize
+    ensures { λ r. ⌜ r ≡ firstAt (now (points .entry)) (now (starts .entry)) i ⌝ }
+{
+    let n = points.len();
+    let e = lesser(end_of(starts, i, n), n);
+    lesser(start_of(starts, i, n), e)
 }
 
 // The points of stroke i, a part of the slice; past the table none.

@@ -17,6 +17,7 @@ ghost use Rattle.ramikohy.specs.Points.{pointOf, matrixOf};
 ghost use Rattle.ramikohy.specs.Status.{left, leftBy, leftByUnit};
 
 pub mod meshes;
+pub mod reader;
 pub mod sheets;
 pub mod strokes;
 
