@@ -73,8 +73,8 @@ pub fn number_at(points: &[f64], k: usize) -> f64
     nothing()
 }
 
-// The point at place i, NaN past the end.
-pub fn point_at(points: &[f64], i: usize) -> Vector
+// The point at place i where not all of it is there: NaN past the end.
+fn point_past(points: &[f64], i: usize) -> Vector
     ensures { λ r. ⌜ r ≡ pointAt (now (points .entry)) i ⌝ }
 {
     if points.len() <= i {
@@ -89,6 +89,21 @@ pub fn point_at(points: &[f64], i: usize) -> Vector
     }
 }
 
+// The point at place i, NaN past the end. One test serves all three of its numbers.
+pub fn point_at(points: &[f64], i: usize) -> Vector
+    ensures { λ r. ⌜ r ≡ pointAt (now (points .entry)) i ⌝ }
+{
+    if i < points.len() / 3 {
+        let k = i * 3;
+        return Vector {
+            x: points[k],
+            y: points[k + 1],
+            z: points[k + 2],
+        };
+    }
+    point_past(points, i)
+}
+
 // Stores a number at place k; past the end nothing.
 pub fn put(out: &mut [f64], k: usize, x: f64)
     ensures { λ _. ⌜ now (out .exit) ≡ set (now (out .entry)) k x ⌝ }
@@ -98,8 +113,8 @@ pub fn put(out: &mut [f64], k: usize, x: f64)
     }
 }
 
-// Stores a point at place i; past the end nothing.
-pub fn put_point(out: &mut [f64], i: usize, v: Vector)
+// Stores what there is room for of a point at place i: past the end nothing.
+fn put_past(out: &mut [f64], i: usize, v: Vector)
     ensures { λ _. ⌜ now (out .exit) ≡ putPoint (now (out .entry)) i v ⌝ }
 {
     if i < out.len() {
@@ -107,6 +122,20 @@ pub fn put_point(out: &mut [f64], i: usize, v: Vector)
         put(out, k, v.x);
         put(out, k + 1, v.y);
         put(out, k + 2, v.z);
+    }
+}
+
+// Stores a point at place i; past the end nothing. One test serves all three of its numbers.
+pub fn put_point(out: &mut [f64], i: usize, v: Vector)
+    ensures { λ _. ⌜ now (out .exit) ≡ putPoint (now (out .entry)) i v ⌝ }
+{
+    if i < out.len() / 3 {
+        let k = i * 3;
+        out[k] = v.x;
+        out[k + 1] = v.y;
+        out[k + 2] = v.z;
+    } else {
+        put_past(out, i, v);
     }
 }
 

@@ -1,5 +1,6 @@
 pub mod Chops
 pub mod Counts
+pub mod Bounds
 pub mod Calls
 pub mod Unique
 pub mod Cases

@@ -12,15 +12,17 @@ use refusal::MOST_POINTS;
 use refusal::Refusal;
 use refusal::Verdict;
 use vector::Vector;
-use vector::number::root_exceeds;
 use vector::number::root_or_nan;
 ghost use mathlib.Core.Path.{_≡_};
+ghost use mathlib.Core.Bool.{cond, _&&_};
 ghost use mathlib.Core.List.{map};
-ghost use Prim.Native.Nat.{_+_, _-_, _/_, _≤_, _<_};
+ghost use Prim.Native.Nat.{_+_, _-_, _*_, _/_, _≤_, _<_};
+ghost use lib.Dec.{leb};
+ghost use lib.Ieee.{Float, lt};
 ghost use lib.ListN.{length};
 ghost use Rattle.refusal.specs.Limits.{mostPoints};
 ghost use Rattle.vector.specs.Root.{rootOf};
-ghost use Rattle.vector.specs.Lengths.{orNan, lengthOf};
+ghost use Rattle.vector.specs.Lengths.{orNan};
 ghost use Rattle.path.specs.Strokes.{pointAt, gather, strokesOf};
 ghost use Rattle.path.specs.Laid.{putPoints, pen, inked, out, push, pushAll, joined, nonEmpty};
 ghost use Rattle.path.specs.Left.{left};
@@ -36,25 +38,8 @@ pub enum Chopped {
 // No more points than these are looked at in one span.
 const TOO_MANY: usize = MOST_POINTS + 1;
 
-// How many points lie within a span whose squared length is s: its root is not worked out. d is a running sum, as the source's.
-fn count_steps(s: f64, step: f64) -> usize
-    ensures { λ r. ⌜ (r ≡ length (stepsOf tooMany (orNan (rootOf s)) step step)) × (r ≤ tooMany) ⌝ }
-{
-    let mut n = 0;
-    let mut d = step;
-    while n < TOO_MANY {
-        if root_exceeds(s, d) {
-            n += 1;
-            d = d + step;
-        } else {
-            return n;
-        }
-    }
-    n
-}
-
-// The same by the length l.
-fn count_to(l: f64, step: f64) -> usize
+// How many points lie within a span of length l. d is a running sum, as the source's.
+fn count_steps(l: f64, step: f64) -> usize
     ensures { λ r. ⌜ (r ≡ length (stepsOf tooMany l step step)) × (r ≤ tooMany) ⌝ }
 {
     let mut n = 0;
@@ -68,16 +53,6 @@ fn count_to(l: f64, step: f64) -> usize
         }
     }
     n
-}
-
-// The same: by the length where the step is so small that its square has few digits, so that one root serves all steps.
-fn count_span(s: f64, step: f64) -> usize
-    ensures { λ r. ⌜ (r ≡ length (stepsOf tooMany (orNan (rootOf s)) step step)) × (r ≤ tooMany) ⌝ }
-{
-    if step < 1e-140 {
-        return count_to(root_or_nan(s), step);
-    }
-    count_steps(s, step)
 }
 
 // Writes the points within a span of length l along v from a.
@@ -101,24 +76,13 @@ fn write_steps(a: Vector, v: Vector, l: f64, step: f64, out: &mut [f64], at: usi
     o
 }
 
-// Writes the points within a span along v from a. Where no step fits, its length is not worked out.
-fn write_cuts(a: Vector, v: Vector, step: f64, out: &mut [f64], at: usize) -> usize
-    requires { ⌜ at + length (stepsOf tooMany (lengthOf v) step step) ≤ mostPoints ⌝ }
-    ensures { λ r. ⌜ pen (now (out .exit)) r ≡ inked putPoints (pen (now (out .entry)) at) (map (along a v (lengthOf v)) (stepsOf tooMany (lengthOf v) step step)) ⌝ }
-{
-    if !root_exceeds(v.length_squared(), step) {
-        return at;
-    }
-    write_steps(a, v, v.length(), step, out, at)
-}
-
 // Writes what the span from a to b gives after a.
 fn write_span(a: Vector, b: Vector, step: f64, out: &mut [f64], at: usize) -> usize
     requires { ⌜ at + length (span step a b) ≤ mostPoints ⌝ }
     ensures { λ r. ⌜ pen (now (out .exit)) r ≡ inked putPoints (pen (now (out .entry)) at) (span step a b) ⌝ }
 {
     let v = b.sub(a);
-    let o = write_cuts(a, v, step, out, at);
+    let o = write_steps(a, v, v.length(), step, out, at);
     put_point(out, o, b);
     o + 1
 }
@@ -233,6 +197,64 @@ fn cap(n: usize) -> usize
     n
 }
 
+// The larger of two, the first where they are level or one is NaN.
+fn larger(a: f64, b: f64) -> f64
+    ensures { λ r. ⌜ r ≡ cond (lt a b) b a ⌝ }
+{
+    if a < b {
+        return b;
+    }
+    a
+}
+
+// The square of the longest of the spans over the points from place i up to e: none of them takes more steps than one so long.
+fn longest(points: &[f64], i: usize, e: usize, first: Vector) -> f64
+    ensures { λ r. ⌜ ((step : Float) → length (spans step first (gather (pointAt (now (points .entry))) i (e - i))) ≤ (e - i) * (length (stepsOf tooMany (orNan (rootOf r)) step step) + 1)) ⌝ }
+{
+    let mut most = 0.0;
+    let mut p = first;
+    let mut j = i;
+    while j < e {
+        let q = point_at(points, j);
+        most = larger(most, q.sub(p).length_squared());
+        p = q;
+        j += 1;
+    }
+    most
+}
+
+// A count with what the stroke from place a up to e adds at most: as if all its spans were as long as the longest. One root serves them all.
+fn bound_stroke(points: &[f64], a: usize, e: usize, step: f64, so_far: usize) -> usize
+    requires { ⌜ «so_far» ≤ tooMany ⌝ }
+    ensures { λ r. ⌜ (capped («so_far» + length (chopped step (gather (pointAt (now (points .entry))) a (e - a)))) ≤ r) × (r ≤ tooMany) ⌝ }
+{
+    if kept(a, e) == 0 {
+        return so_far;
+    }
+    let most = longest(points, a + 1, e, point_at(points, a));
+    let n = count_steps(root_or_nan(most), step) + 1;
+    let k = e - (a + 1);
+    if TOO_MANY / n < k {
+        return TOO_MANY;
+    }
+    cap(so_far + 1 + k * n)
+}
+
+// How many points all strokes give at most.
+fn bound_strokes(points: &[f64], starts: &[u32], step: f64) -> usize
+    ensures { λ r. ⌜ (capped (length (joined (choppedOf step (now (points .entry)) (now (starts .entry))))) ≤ r) × (r ≤ tooMany) ⌝ }
+{
+    let mut n = 0;
+    let mut j = 0;
+    while j < starts.len() {
+        let a = starts[j] as usize;
+        let e = end_of(starts, j, points.len() / 3);
+        n = bound_stroke(points, a, e, step, n);
+        j += 1;
+    }
+    n
+}
+
 // What the points from place i up to e add to a count. No span is looked at once there are too many.
 fn count_spans(points: &[f64], i: usize, e: usize, first: Vector, step: f64, so_far: usize) -> usize
     requires { ⌜ «so_far» ≤ tooMany + 1 ⌝ }
@@ -246,7 +268,7 @@ fn count_spans(points: &[f64], i: usize, e: usize, first: Vector, step: f64, so_
             return TOO_MANY;
         }
         let q = point_at(points, j);
-        n = n + count_span(q.sub(p).length_squared(), step) + 1;
+        n = n + count_steps(q.sub(p).length(), step) + 1;
         p = q;
         j += 1;
     }
@@ -264,39 +286,58 @@ fn count_stroke(points: &[f64], a: usize, e: usize, step: f64, so_far: usize) ->
     count_spans(points, a + 1, e, point_at(points, a), step, so_far + 1)
 }
 
-// How many points, no longer counted where they are too many, and starts would be written.
-fn count_strokes(points: &[f64], starts: &[u32], step: f64) -> Place
-    ensures { λ r. ⌜ (r .points ≡ capped (length (joined (choppedOf step (now (points .entry)) (now (starts .entry))))))
-        × (r .starts ≡ length (nonEmpty (choppedOf step (now (points .entry)) (now (starts .entry))))) ⌝ }
+// How many points would be written, no longer counted where they are too many.
+fn count_strokes(points: &[f64], starts: &[u32], step: f64) -> usize
+    ensures { λ r. ⌜ r ≡ capped (length (joined (choppedOf step (now (points .entry)) (now (starts .entry))))) ⌝ }
 {
     let mut n = 0;
-    let mut k = 0;
     let mut j = 0;
     while j < starts.len() {
         let a = starts[j] as usize;
         let e = end_of(starts, j, points.len() / 3);
         n = count_stroke(points, a, e, step, n);
+        j += 1;
+    }
+    n
+}
+
+// How many starts would be written, whatever the step.
+fn kept_strokes(points: &[f64], starts: &[u32]) -> usize
+    ensures { λ r. ⌜ ((step : Float) → r ≡ length (nonEmpty (choppedOf step (now (points .entry)) (now (starts .entry))))) ⌝ }
+{
+    let mut k = 0;
+    let mut j = 0;
+    while j < starts.len() {
+        let a = starts[j] as usize;
+        let e = end_of(starts, j, points.len() / 3);
         k = k + kept(a, e);
         j += 1;
     }
-    Place {
-        points: n,
-        starts: k,
-    }
+    k
 }
 
-// Whether there is room for all, and not too much in all.
+// Whether so many points are not too many, and have room.
+fn enough(n: usize, room: usize) -> bool
+    requires { ⌜ n ≤ tooMany ⌝ }
+    ensures { λ r. ⌜ r ≡ leb n mostPoints && leb (n * 3) room ⌝ }
+{
+    if MOST_POINTS < n {
+        return false;
+    }
+    n * 3 <= room
+}
+
+// Whether there is room for all, and not too much in all. The points are counted only where the bound does not tell.
 fn fits(points: &[f64], starts: &[u32], step: f64, room: usize, start_room: usize) -> bool
     ensures { λ r. ⌜ r ≡ roomFor (choppedOf step (now (points .entry)) (now (starts .entry))) room «start_room» ⌝ }
 {
-    let p = count_strokes(points, starts, step);
-    if MOST_POINTS < p.points {
+    if start_room < kept_strokes(points, starts) {
         return false;
     }
-    if room < p.points * 3 {
-        return false;
+    if enough(bound_strokes(points, starts, step), room) {
+        return true;
     }
-    p.starts <= start_room
+    enough(count_strokes(points, starts, step), room)
 }
 
 // The tests of a call, in the order of their numbers.

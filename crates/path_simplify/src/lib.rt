@@ -12,7 +12,7 @@ use refusal::Refusal;
 use refusal::Verdict;
 use vector::Vector;
 use vector::number::root_above;
-use vector::number::root_exceeds;
+use vector::number::root_or_nan;
 ghost use mathlib.Core.Path.{_≡_};
 ghost use Prim.Native.Nat.{_+_, _-_, _/_, _≤_, _<_};
 ghost use lib.ListN.{length};
@@ -117,7 +117,8 @@ fn splits(f: Best, lo: usize, threshold: f64) -> bool
     ensures { λ r. ⌜ r ≡ splitsAt (farOf f) lo threshold ⌝ }
 {
     let m = f.at;
-    if root_exceeds(f.square, threshold) {
+    let distance = root_or_nan(f.square);
+    if distance > threshold {
         return lo < m;
     }
     false

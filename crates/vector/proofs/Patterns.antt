@@ -163,6 +163,15 @@ pub no-nan : (x : Float) → Above x → T (not (isNan x))
 unfolding isNan
 no-nan x (above m e) = tt
 
+-- what is above something is no NaN
+pub beyond-no-nan : (a x : Float) → lt a x ≡ true → T (not (isNan x))
+unfolding lt isNan
+beyond-no-nan nan nan p = subst T (sym p) tt
+beyond-no-nan (inf s) nan p = subst T (sym p) tt
+beyond-no-nan (fin s m e) nan p = subst T (sym p) tt
+beyond-no-nan a (inf s) p = tt
+beyond-no-nan a (fin s m e) p = tt
+
 pub in-patterns : (x : Float) → T (fits binary64 x) → Above x → (0 < toBits binary64 x) × (toBits binary64 x < 2047 * 2 ^ 52)
 in-patterns x h (above m e) = bits-in m e h
 

@@ -9,7 +9,7 @@ use lib.Dec.{T, ltb, lt→ltb, ltb→lt, nltb→le, lit<}
 use lib.Arith.{le→nltb}
 use lib.Pow.{pow-pos}
 use lib.IntN.{ℤ, pos, negsuc}
-use lib.Ieee.{Float, nan, inf, fin, up, down, binary64, fits, ofBits, toBits, add, mul, lt, eq}
+use lib.Ieee.{Float, nan, inf, fin, up, down, binary64, fits, ofBits, toBits, add, mul, lt, eq, isNan}
 use lib.Ieee.Bits.{is-true, is-false}
 use lib.Ieee.Exact.{HasValue}
 use lib.Ieee.Fits.{up-pos, down-pos, add-fits}
@@ -24,6 +24,7 @@ use Rattle.vector.proofs.Roots.{lt-or-ge}
 use Rattle.vector.proofs.Patterns.{nil, above, of-bits, in-patterns, level-zero, units-bits, units-pos, units-lt}
 use Rattle.vector.proofs.RootSearch.{at-mono, at-step, under-down, found, root-is, no-zero}
 use Rattle.vector.proofs.RootNearest.{root-of}
+use Rattle.vector.proofs.Order.{lt-through}
 
 -- the root that is answered, NaN where it is refused
 abbrev pub rooted : Float → Float
@@ -170,6 +171,35 @@ sqrt-monotone (fin false (suc m) e) (fin false (suc n) d) h k p =
     not-lt (rooted (fin false (suc m) e)) (rooted (fin false (suc n) d)) _ _ (2 ^ 1074) (pow-pos 1074) (value m e h) (value n d k)
     (at-mono (rootBits (unitsOf (fin false (suc n) d))) (rootBits (unitsOf (fin false (suc m) e)))
     (bits-mono (unitsOf (fin false (suc n) d)) (unitsOf (fin false (suc m) e)) (unfold unitsOf in units-pos n d k) (units-mono m n e d p) (unfold unitsOf in units-lt m e h)))
+
+-- what has a value is no NaN
+not-nan-value : (x : Float) (a c : ℕ) → HasValue x false a c → T (not (isNan x))
+unfolding isNan
+not-nan-value nan a c h = absurd h
+not-nan-value (inf s) a c h = tt
+not-nan-value (fin s m e) a c h = tt
+
+-- what is above a number that has a root has one
+pub root-some : (m s : Float) → T (fits binary64 s) → T (not (isNan (rooted m))) → T (lt m s) → T (not (isNan (rooted s)))
+unfolding lt rootOf isNan
+root-some m nan h r p = absurd (subst T (never-nan m) p)
+root-some nan (inf true) h r p = absurd p
+root-some (inf true) (inf true) h r p = absurd p
+root-some (inf false) (inf true) h r p = absurd p
+root-some (fin t n d) (inf true) h r p = absurd p
+root-some m (inf false) h r p = tt
+root-some m (fin s zero e) h r p = tt
+root-some nan (fin true (suc k) e) h r p = absurd p
+root-some (inf true) (fin true (suc k) e) h r p = absurd r
+root-some (inf false) (fin true (suc k) e) h r p = absurd p
+root-some (fin true zero d) (fin true (suc k) e) h r p = let z : zero * up d * down e ≡ 0 = rw (zero-mul (up d)) (zero-mul (down e)) in absurd (omega (arith, z, ltb→lt (suc k * up e * down d) (zero * up d * down e) p))
+root-some (fin true (suc n) d) (fin true (suc k) e) h r p = absurd r
+root-some (fin false n d) (fin true (suc k) e) h r p = absurd p
+root-some m (fin false (suc k) e) h r p = not-nan-value (rooted (fin false (suc k) e)) _ (2 ^ 1074) (value k e h)
+
+-- what is below the root of a number is below that of any number that is not below it
+pub root-through : (s m d : Float) → T (fits binary64 s) → T (fits binary64 m) → lt m s ≡ false → T (not (isNan (rooted m))) → T (lt d (rooted s)) → T (lt d (rooted m))
+root-through s m d h k p r l = lt-through d (rooted s) (rooted m) l (subst (λ (b : Bool). T (not b)) (sym (sqrt-monotone m s k h p)) tt) r
 
 -- a length over a NaN is NaN
 add-nan : (x : Float) → add binary64 x nan ≡ nan

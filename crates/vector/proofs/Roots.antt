@@ -4,7 +4,7 @@ use mathlib.Core.Logic.{_⊎_, inl, inr, ⊎-elim}
 use lib.Dec.{T, ltb, ltb→lt, nltb→le}
 use mathlib.Core.Bool.{Bool, true, false, not, cond}
 use Prim.Native.Nat.{ℕ, zero, suc, _+_, _-_, _*_, _/_, _%_, _^_, _≤_, _<_}
-use native.Mathlib.Nat.{eq-or-lt-of-le, le-of-lt, lt-of-mul-lt-mul-right, mul-le-mul, mul-mul-mul-comm, not-le-of-lt, mul-pos, mul-lt-mul-of-pos-left, pow-suc, mul-comm, mul-assoc, lt-of-not-le, lt-irrefl, lt-of-le-of-lt, lt-of-lt-of-le, le-trans, le-of-eq, one-mul, mul-le-mul-left, mul-le-mul-right, mul-lt-mul-of-pos-right, mul-one}
+use native.Mathlib.Nat.{eq-or-lt-of-le, le-of-lt, lt-of-mul-lt-mul-right, mul-le-mul, mul-mul-mul-comm, not-le-of-lt, mul-pos, mul-lt-mul-of-pos-left, pow-suc, mul-comm, mul-assoc, lt-of-not-le, lt-irrefl, lt-of-le-of-lt, lt-of-lt-of-le, le-trans, le-of-eq, one-mul, mul-le-mul-left, mul-le-mul-right, mul-lt-mul-of-pos-right, mul-one, div-add-mod, mod-lt}
 use native.Mathlib.Omega.{arith}
 use lib.Pow.{pow-pos, pow-add, pow-mono}
 use Rattle.vector.specs.Steps.{Digits, Normal, NearestUnits, at}
@@ -16,90 +16,84 @@ lt-or-ge a b = go (ltb a b) (ltb→lt a b) (nltb→le a b)
     go true f g = inl (f tt)
     go false f g = inr (g tt)
 
--- ---- digit by digit
+-- ---- half of the digits, then the other half by a division
 
--- What the loop keeps: `rest` times `bit` is what is left of n * 2 ^ 54 when the square of q is taken away, and the digits to come make less than `bit`.
-pub record Step (n rest q bit : ℕ) : Type 0 where
-  pub place : ℕ
-  pub power : bit ≡ 2 ^ place
-  pub room : q + bit ≤ 2 ^ 54
-  pub small : rest < 2 * q + bit
-  pub whole : rest * bit + q * q ≡ n * 2 ^ 54
+pub sq-lt : (a b : ℕ) → a < b → a * a < b * b
+sq-lt a b h = lt-of-le-of-lt (mul-le-mul-left a (le-of-lt h)) (mul-lt-mul-of-pos-right h (omega arith))
 
-halves : (k bit : ℕ) → bit ≡ 2 ^ k → 1 < bit → (bit ≡ 2 * (bit / 2)) × (bit / 2 ≡ 2 ^ (k - 1))
-halves zero bit p h = absurd (omega arith)
-halves (suc k) bit p h =
-    let e : bit ≡ 2 * 2 ^ k = p ∙ pow-suc 2 k ∙ mul-comm (2 ^ k) 2 in
-    let d : suc k - 1 ≡ k = omega arith in
-    (omega arith, rw d (omega arith))
+-- what has a square below another's is below it
+pub root-lt : (a b : ℕ) → a * a < b * b → a < b
+root-lt a b h = ⊎-elim (λ g. g) (λ g. absurd (not-le-of-lt h (mul-le-mul g g))) (lt-or-ge a b)
 
-pub start : (n : ℕ) → n < 2 ^ 54 → Step n n 0 (2 ^ 54)
-start n h = record { place = 54; power = refl; room = omega arith; small = omega arith; whole = omega arith }
+-- how large the halves and what is left can be: s the first half, q and u what a division by 2 * s gives
+abbrev pub Sizes : ℕ → ℕ → ℕ → ℕ → Type 0
+Sizes n s q u = (2 ^ 26 ≤ s) × (s < 2 ^ 27) × (n - s * s ≤ 2 * s) × (u < 2 * s) × (q ≤ 2 ^ 27) × (q * q ≤ 2 ^ 54)
 
-module _ {n rest q bit : ℕ} (s : Step n rest q bit) (more : 1 < bit) where
-  pub taken : 2 * q + bit / 2 ≤ rest * 2 → Step n (rest * 2 - (2 * q + bit / 2)) (q + bit / 2) (bit / 2)
-  taken t =
-      let h = bit / 2 in
-      let u = rest * 2 - (2 * q + bit / 2) in
-      let p = halves (s .place) bit (s .power) more in
-      let e : rest * 2 ≡ u + (2 * q + h) = omega arith in
-      record {
-        place = s .place - 1;
-        power = p .1;
-        room = omega (arith, p, s .room);
-        small = omega (arith, p .0, s .small);
-        whole = whole-taken rest bit q u h (n * 2 ^ 54) (p .0) e (s .whole);
-      }
-    where
-      whole-taken : (rest bit q u h m : ℕ) → bit ≡ 2 * h → rest * 2 ≡ u + (2 * q + h) → rest * bit + q * q ≡ m → u * h + (q + h) * (q + h) ≡ m
-      whole-taken rest bit q u h m b e w = omega (arith, ap (λ (x : ℕ). rest * x) b, ap (λ (x : ℕ). x * h) e)
+-- s is the whole part of the root of n
+module _ (n s : ℕ) (least : 2 ^ 52 ≤ n) (most : n < 2 ^ 54) (r : Digits n s) where
+  half-most : s < 2 ^ 27
+  half-most = root-lt s (2 ^ 27) (lt-of-le-of-lt (r .not-above) most)
 
-  pub left : rest * 2 < 2 * q + bit / 2 → Step n (rest * 2) q (bit / 2)
-  left t =
-      let p = halves (s .place) bit (s .power) more in
-      record {
-        place = s .place - 1;
-        power = p .1;
-        room = omega (arith, p, s .room);
-        small = t;
-        whole = whole-left rest bit q (bit / 2) (n * 2 ^ 54) (p .0) (s .whole);
-      }
-    where
-      whole-left : (rest bit q h m : ℕ) → bit ≡ 2 * h → rest * bit + q * q ≡ m → rest * 2 * h + q * q ≡ m
-      whole-left rest bit q h m b w = omega (arith, ap (λ (x : ℕ). rest * x) b)
+  half-least : 2 ^ 26 ≤ s
+  half-least = let l = root-lt (2 ^ 26) (s + 1) (lt-of-le-of-lt least (r .next-above)) in omega arith
 
--- a turn of the loop: the digit is a number, 1 or 0
-pub turn : {n rest q bit : ℕ} → Step n rest q bit → 1 < bit → (t g : ℕ) → t ≡ 2 * q + bit / 2 → g ≡ (2 ^ 63 + rest * 2 - t) / 2 ^ 63 → Step n (rest * 2 - t * g) (q + bit / 2 * g) (bit / 2)
-turn {n} {rest} {q} {bit} s more t g e f = ⊎-elim without with (lt-or-ge (rest * 2) (2 * q + bit / 2))
-  where
-    with : 2 * q + bit / 2 ≤ rest * 2 → Step n (rest * 2 - t * g) (q + bit / 2 * g) (bit / 2)
-    with l =
-        let o : g ≡ 1 = omega (arith, s .small, s .room) in
-        rw (o, mul-one t, mul-one (bit / 2), e) (taken s more l)
+  left-most : n - s * s ≤ 2 * s
+  left-most = omega (arith, r .next-above)
 
-    without : rest * 2 < 2 * q + bit / 2 → Step n (rest * 2 - t * g) (q + bit / 2 * g) (bit / 2)
-    without l =
-        let o : g ≡ 0 = omega (arith, s .small, s .room) in
-        let u : rest * 2 - t * g ≡ rest * 2 = rw o (omega arith) in
-        let v : q + bit / 2 * g ≡ q = rw o (omega arith) in
-        rw (u, v) (left s more l)
+  -- the root of a number of 108 digits has 54
+  few : {k : ℕ} → Digits (n * 2 ^ 54) k → (k < 2 ^ 54) × Digits (n * 2 ^ 54) k
+  few {k} d = (root-lt k (2 ^ 54) (lt-of-le-of-lt (d .not-above) (omega arith)), d)
 
--- and what it takes away is there
-pub paid : {n rest q bit : ℕ} → Step n rest q bit → (t g : ℕ) → t ≡ 2 * q + bit / 2 → g ≡ (2 ^ 63 + rest * 2 - t) / 2 ^ 63 → (t * g ≤ rest * 2) × (bit / 2 * g ≤ bit / 2)
-paid {n} {rest} {q} {bit} s t g e f = ⊎-elim without with (lt-or-ge (rest * 2) t)
-  where
-    with : t ≤ rest * 2 → (t * g ≤ rest * 2) × (bit / 2 * g ≤ bit / 2)
-    with l = let o : g ≡ 1 = omega (arith, s .small, s .room) in rw (o, mul-one t, mul-one (bit / 2)) (l, omega arith)
+  -- what is left, with 27 digits more, is q times 2 * s and u
+  module _ (q u : ℕ) (parts : 2 * s * q + u ≡ (n - s * s) * 2 ^ 27) (below : u < 2 * s) where
+    q-most : q ≤ 2 ^ 27
+    q-most = ⊎-elim (λ g. omega arith) (λ g. absurd (too-large g)) (lt-or-ge q (2 ^ 27 + 1))
+      where
+        too-large : 2 ^ 27 + 1 ≤ q → ⊥
+        too-large g = let l = mul-le-mul-left (2 * s) g in omega (arith, left-most, half-least)
 
-    without : rest * 2 < t → (t * g ≤ rest * 2) × (bit / 2 * g ≤ bit / 2)
-    without l = let o : g ≡ 0 = omega (arith, s .small, s .room) in rw o (omega arith, omega arith)
+    whole : n * 2 ^ 54 ≡ s * s * 2 ^ 54 + (2 * s * q + u) * 2 ^ 27
+    whole = omega (arith, r .not-above, parts)
 
-pub last : (n rest q bit : ℕ) → Step n rest q bit → bit ≤ 1 → (q < 2 ^ 54) × Digits (n * 2 ^ 54) q
-last n rest q bit s h =
-    let o : bit ≡ 1 = omega (arith, s .power, pow-pos (s .place)) in
-    let w : rest + q * q ≡ n * 2 ^ 54 = omega (arith, s .whole, ap (λ (x : ℕ). rest * x) o) in
-    let l : rest < 2 * q + 1 = omega (arith, s .small) in
-    (omega (arith, s .room), record { not-above = omega arith; next-above = omega arith })
+    as-it-is : q * q ≤ u * 2 ^ 27 → Digits (n * 2 ^ 54) (s * 2 ^ 27 + q)
+    as-it-is l = record { not-above = omega (arith, whole); next-above = omega (arith, whole) }
+
+    one-less : u * 2 ^ 27 < q * q → Digits (n * 2 ^ 54) (s * 2 ^ 27 + q - 1)
+    one-less l = go q refl
+      where
+        go : (k : ℕ) → q ≡ k → Digits (n * 2 ^ 54) (s * 2 ^ 27 + q - 1)
+        go zero e = absurd (omega (arith, ap (λ (x : ℕ). x * x) e))
+        go (suc p) e =
+            let f : s * 2 ^ 27 + q - 1 ≡ s * 2 ^ 27 + p = omega arith in
+            let m : p ≤ 2 ^ 27 = omega (arith, q-most) in
+            let w : s * q ≡ s * p + s = ap (λ (x : ℕ). s * x) e ∙ omega arith in
+            rw f
+            record {
+              not-above = omega (arith, whole, w, mul-le-mul m m, half-least);
+              next-above = omega (arith, whole, w, ap (λ (x : ℕ). x * x) e);
+            }
+
+  -- the same of the two numbers that a division gives
+  abbrev pub quotient : ℕ
+  quotient = (n - s * s) * 2 ^ 27 / (2 * s)
+
+  abbrev pub remainder : ℕ
+  remainder = (n - s * s) * 2 ^ 27 % (2 * s)
+
+  shares : 2 * s * quotient + remainder ≡ (n - s * s) * 2 ^ 27
+  shares = div-add-mod ((n - s * s) * 2 ^ 27) (2 * s)
+
+  small : remainder < 2 * s
+  small = mod-lt ((n - s * s) * 2 ^ 27) (omega (arith, half-least))
+
+  pub sizes : Sizes n s quotient remainder
+  sizes = let m = q-most quotient remainder shares small in (half-least, half-most, left-most, small, m, mul-le-mul m m)
+
+  pub by-less : remainder * 2 ^ 27 < quotient * quotient → (s * 2 ^ 27 + quotient - 1 < 2 ^ 54) × Digits (n * 2 ^ 54) (s * 2 ^ 27 + quotient - 1)
+  by-less l = few (one-less quotient remainder shares small l)
+
+  pub by-quotient : quotient * quotient ≤ remainder * 2 ^ 27 → (s * 2 ^ 27 + quotient < 2 ^ 54) × Digits (n * 2 ^ 54) (s * 2 ^ 27 + quotient)
+  by-quotient l = few (as-it-is quotient remainder shares small l)
 
 -- ---- the digits and the exponent
 pub at-low : (b : ℕ) → b / 2 ^ 52 ≤ 0 → at b ≡ b % 2 ^ 52
@@ -175,9 +169,6 @@ pub up : (m j c k : ℕ) → m < 2 ^ 53 → 2 ^ 52 ≤ c → c * 2 ^ k < m * 2 ^
 up m j c k h l t = ⊎-elim (λ g. absurd (not-le-of-lt t (dn m j c k h l g))) (λ g. g) (lt-or-ge (m * 2 ^ j) ((c + 1) * 2 ^ k))
 
 -- ---- the rounded root
-
-pub sq-lt : (a b : ℕ) → a < b → a * a < b * b
-sq-lt a b h = lt-of-le-of-lt (mul-le-mul-left a (le-of-lt h)) (mul-lt-mul-of-pos-right h (omega arith))
 
 odd-square : (a b : ℕ) → (2 * a + 1) * (2 * a + 1) ≡ 2 * b → ⊥
 odd-square a b h = omega arith
@@ -337,5 +328,9 @@ by-parity N d e s n f r = ⊎-elim odd even (lt-or-ge 0 (e % 2))
         let o : d * (1 + e % 2) ≡ d = rw z (mul-one d) in
         by-even N d e s n z f (rw o at r)
 
-pub twice : (d e : ℕ) → d < 2 ^ 53 → d * (1 + e % 2) < 2 ^ 54
-twice d e h = let o : 1 + e % 2 ≤ 2 = omega arith in lt-of-le-of-lt (mul-le-mul-left d o) (omega arith)
+pub twice : (d e : ℕ) → 2 ^ 52 ≤ d → d < 2 ^ 53 → (2 ^ 52 ≤ d * (1 + e % 2)) × (d * (1 + e % 2) < 2 ^ 54)
+twice d e l h =
+    let o : 1 + e % 2 ≤ 2 = omega arith in
+    let p : 1 ≤ 1 + e % 2 = omega arith in
+    let i = mul-le-mul-left d p in
+    (omega arith, lt-of-le-of-lt (mul-le-mul-left d o) (omega arith))

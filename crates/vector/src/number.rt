@@ -5,7 +5,7 @@ ghost use Prim.Native.Nat.{_+_, _*_, _^_, _<_, _≤_};
 ghost use Rattle.vector.specs.Answers.{wholeSaid, rootSaid};
 ghost use Rattle.vector.specs.Floor.{floorOf};
 ghost use mathlib.Core.Bool.{true};
-ghost use lib.Ieee.{binary64, lt, mul};
+ghost use lib.Ieee.{lt};
 ghost use Rattle.vector.specs.Root.{rootOf};
 ghost use Rattle.vector.specs.Lengths.{orNan};
 ghost use Rattle.vector.specs.Steps.{at, Digits, Normal, NearestUnits};
@@ -58,24 +58,61 @@ struct Scaled {
     e: u64,
 }
 
-// The whole part of the root of n * 2^54, digit by digit. `rest` times `bit` is what is left of
-// n * 2^54 when the square of the digits found is taken away. No branch hangs on a digit: none could be guessed.
-fn digits(n: u64) -> u64
+// A guess at the root of n: three of Newton's steps towards 1 / root, from a parabola near it. Nothing
+// is promised of it but that it is small; `lower` and `raise` mend it, and seldom have more than one to mend.
+fn guess(n: u64) -> u64
     requires { ⌜ n < 2 ^ 54 ⌝ }
+    ensures { λ r. ⌜ r < 2 ^ 28 ⌝ }
+{
+    let h = (n / 2) as f64 / 4503599627370496.0;
+    let mut y = 1.3355 - h * (0.8215 - h * 0.205);
+    y = y * (1.5 - h * y * y);
+    y = y * (1.5 - h * y * y);
+    y = y * (1.5 - h * y * y);
+    let z = h * y * 134217728.0 + 4503599627370495.5; // its last digits are those of the guess
+    if z > 0.0 {
+        return f64::to_bits(z) % 0x1000_0000;
+    }
+    0
+}
+
+// From a guess down to a number whose square is not above n.
+fn lower(n: u64, g: u64) -> u64
+    requires { ⌜ g < 2 ^ 28 ⌝ }
+    ensures { λ r. ⌜ r * r ≤ n ⌝ }
+{
+    let mut s = g;
+    while n < s * s {
+        s -= 1;
+    }
+    s
+}
+
+// From a number whose square is not above n up to the greatest: the whole part of the root of n.
+fn raise(n: u64, g: u64) -> u64
+    requires { ⌜ (n < 2 ^ 54) × (g * g ≤ n) ⌝ }
+    ensures { λ r. ⌜ Digits n r ⌝ }
+{
+    let mut s = g;
+    while (s + 1) * (s + 1) <= n {
+        s += 1;
+    }
+    s
+}
+
+// The whole part of the root of n * 2^54: s, that of n, is the first half of its digits. The other half, q, comes
+// by a division: it takes (2 * s * 2^27 + q) * q of what is left, (n - s * s) * 2^54, and may come out 1 too large.
+fn digits(n: u64) -> u64
+    requires { ⌜ (2 ^ 52 ≤ n) × (n < 2 ^ 54) ⌝ }
     ensures { λ r. ⌜ (r < 2 ^ 54) × Digits (n * 2 ^ 54) r ⌝ }
 {
-    let mut rest = n;
-    let mut q: u64 = 0;
-    let mut bit: u64 = 0x40_0000_0000_0000;
-    while 1 < bit {
-        bit = bit / 2;
-        rest = rest * 2;
-        let t = 2 * q + bit;
-        let digit = (0x8000_0000_0000_0000 + rest - t) / 0x8000_0000_0000_0000; // 1 where t <= rest, else 0
-        rest -= t * digit;
-        q += bit * digit;
+    let s = raise(n, lower(n, guess(n)));
+    let rest = (n - s * s) * 0x800_0000;
+    let q = rest / (2 * s);
+    if rest % (2 * s) * 0x800_0000 < q * q {
+        return s * 0x800_0000 + q - 1;
     }
-    q
+    s * 0x800_0000 + q
 }
 
 // The digits and the exponent of a positive number by its pattern, with an exponent that is 1024
@@ -164,29 +201,4 @@ pub fn root_above(x: f64, y: f64) -> bool
         return true;
     }
     root_or_nan(x) > root_or_nan(y)
-}
-
-// Whether t times t keeps enough digits for its root to be t.
-fn squares_well(t: f64) -> bool
-    ensures { λ r. ⌜ (r ≡ true → orNan (rootOf (mul binary64 t t)) ≡ t) ⌝ }
-{
-    if t > 0.0 {
-        if 1.0 / 0.0 > t {
-            let b = f64::to_bits(t);
-            if 0x21a0_0000_0000_0000 <= b {
-                return b < 0x4b00_0000_0000_0000;
-            }
-        }
-    }
-    false
-}
-
-// Whether the root of x is above t. It is worked out only where x is hardly above t times t.
-pub fn root_exceeds(x: f64, t: f64) -> bool
-    ensures { λ r. ⌜ r ≡ lt t (orNan (rootOf x)) ⌝ }
-{
-    if squares_well(t) {
-        return root_above(x, t * t);
-    }
-    root_or_nan(x) > t
 }

@@ -1,49 +1,60 @@
 -- `point_at` meets its contract.
-use Rattle.path.proofs.Points.{pointAt-out}
+use mathlib.Core.Path.{refl}
 use Rattle.path.specs.Strokes.{pointAt}
-use mathlib.Core.Path.{sym}
 use borrow.Author.Needs.{needs}
 use Rattle.path.proofs.point_at.Statement.{statement}
 use Rattle.path.proofs.point_at.Tie as tie
 
-nothing-requires : tie.Need-nothing-requires
-nothing-requires c κs = search needs
-
-returns : tie.Need-returns
-returns c = let a = c .before .before .before .args in rw (c .nothing .ensures) (sym (pointAt-out (a .points .now) (a .i) (c .before .if1 .taken)))
-
 mul-k : tie.Need-mul-k
 mul-k c = search needs
 
-number-at-requires : tie.Need-number-at-requires
-number-at-requires c κs = search needs
+mul-t7 : tie.Need-mul-t7
+mul-t7 c = search needs
 
-add-number-at : tie.Need-add-number-at
-add-number-at c = search needs
+shared-slice-read-t9 : tie.Need-shared-slice-read-t9
+shared-slice-read-t9 c = search needs
 
-number-at-requires-2 : tie.Need-number-at-requires-2
-number-at-requires-2 c κs = search needs
+add-t10 : tie.Need-add-t10
+add-t10 c = search needs
 
-add-number-at-2 : tie.Need-add-number-at-2
-add-number-at-2 c = search needs
+mul-t11 : tie.Need-mul-t11
+mul-t11 c = search needs
 
-number-at-requires-3 : tie.Need-number-at-requires-3
-number-at-requires-3 c κs = search needs
+shared-slice-read-t13 : tie.Need-shared-slice-read-t13
+shared-slice-read-t13 c = search needs
+
+add-t14 : tie.Need-add-t14
+add-t14 c = search needs
+
+mul-t15 : tie.Need-mul-t15
+mul-t15 c = search needs
+
+shared-slice-read-t17 : tie.Need-shared-slice-read-t17
+shared-slice-read-t17 c = search needs
+
+returns : tie.Need-returns
+unfolding pointAt
+returns c = refl
+
+point-past-requires : tie.Need-point-past-requires
+point-past-requires c κs = search needs
 
 returns-2 : tie.Need-returns-2
-unfolding pointAt
-returns-2 c = cc
+returns-2 c = search needs
 
 pub point-at-spec : {M : Type 1} → statement M
 point-at-spec =
     tie.close
     (tie.spec
-    nothing-requires
-    returns
     mul-k
-    number-at-requires
-    add-number-at
-    number-at-requires-2
-    add-number-at-2
-    number-at-requires-3
+    mul-t7
+    shared-slice-read-t9
+    add-t10
+    mul-t11
+    shared-slice-read-t13
+    add-t14
+    mul-t15
+    shared-slice-read-t17
+    returns
+    point-past-requires
     returns-2)

@@ -7,7 +7,6 @@ use Rattle.path_chop.specs.Chop.{tooMany, spans, capped}
 use lib.ListN.{length}
 use Prim.Native.Nat.{_+_, _-_, _≤_}
 use native.Mathlib.Omega.{arith}
-use Rattle.vector.proofs.RootLaws.{rooted}
 use mathlib.Core.Path.{_≡_, refl, sym, ap, _∙_}
 use Rattle.path_chop.proofs.count_spans.Statement.{statement}
 use Rattle.path_chop.proofs.count_spans.Tie as tie
@@ -32,11 +31,11 @@ point-at-requires c κs = search needs
 sub-requires : tie.Need-sub-requires Inv-loop μ-loop
 sub-requires c κs = search needs
 
-length-squared-requires : tie.Need-length-squared-requires Inv-loop μ-loop
-length-squared-requires c κs = search needs
+length-requires : tie.Need-length-requires Inv-loop μ-loop
+length-requires c κs = search needs
 
-count-span-requires : tie.Need-count-span-requires Inv-loop μ-loop
-count-span-requires c κs = search needs
+count-steps-requires : tie.Need-count-steps-requires Inv-loop μ-loop
+count-steps-requires c κs = search needs
 
 add-n : tie.Need-add-n Inv-loop μ-loop
 add-n c = omega arith
@@ -54,7 +53,7 @@ loop-again : tie.Need-loop-again Inv-loop μ-loop
 loop-again c =
     let l = c .before .before .before .before .before .before in
     let a = l .before .before .args in
-    let k = spans-count (a .step) (pointAt (a .points .now)) (l .loop .j) (a .e) (l .loop .p) (search needs) _ (c .before .before .before .point-at .ensures) _ (c .before .before .sub .ensures) _ (ap rooted (c .before .length-squared .ensures)) in
+    let k = spans-count (a .step) (pointAt (a .points .now)) (l .loop .j) (a .e) (l .loop .p) (search needs) _ (c .before .before .before .point-at .ensures) _ (c .before .before .sub .ensures) _ (c .before .length .ensures) in
     (omega arith, ap capped (omega arith) ∙ l .loop .inv .1)
 
 cap-requires : tie.Need-cap-requires Inv-loop μ-loop
@@ -77,8 +76,8 @@ count-spans-spec =
     returns
     point-at-requires
     sub-requires
-    length-squared-requires
-    count-span-requires
+    length-requires
+    count-steps-requires
     add-n
     add-n-2
     add-j

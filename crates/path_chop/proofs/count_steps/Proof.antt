@@ -5,22 +5,18 @@ use Rattle.path_chop.specs.Chop.{tooMany, stepsOf}
 use lib.ListN.{length}
 use Prim.Native.Nat.{_+_, _-_, _≤_}
 use native.Mathlib.Omega.{arith}
-use mathlib.Core.Path.{_≡_, sym, ap, _∙_}
-use Rattle.vector.proofs.RootLaws.{rooted}
+use mathlib.Core.Path.{_≡_, ap}
 use Rattle.path_chop.proofs.count_steps.Statement.{statement}
 use Rattle.path_chop.proofs.count_steps.Tie as tie
 
 abbrev Inv-loop : tie.InvT-loop
-Inv-loop s step n₀ d₀ n d = (n ≤ tooMany) × (n + length (stepsOf (tooMany - n) (rooted s) step d) ≡ length (stepsOf tooMany (rooted s) step step))
+Inv-loop l step n₀ d₀ n d = (n ≤ tooMany) × (n + length (stepsOf (tooMany - n) l step d) ≡ length (stepsOf tooMany l step step))
 
 abbrev μ-loop : tie.MeasureT-loop
-μ-loop s step n₀ d₀ n d = tooMany - n
+μ-loop l step n₀ d₀ n d = tooMany - n
 
 loop-holds : tie.Need-loop-holds Inv-loop μ-loop
 loop-holds c = omega arith
-
-root-exceeds-requires : tie.Need-root-exceeds-requires Inv-loop μ-loop
-root-exceeds-requires c κs = search needs
 
 add-n : tie.Need-add-n Inv-loop μ-loop
 add-n c = omega arith
@@ -30,22 +26,22 @@ loop-less c = omega arith
 
 loop-again : tie.Need-loop-again Inv-loop μ-loop
 loop-again c =
-    let l = c .before .before .before in
+    let l = c .before .before in
     let a = l .before .args in
-    omega (arith, ap length (steps-more (l .loop .n) tooMany (rooted (a .s)) (a .step) (l .loop .d) (search needs) (sym (c .before .root-exceeds .ensures) ∙ c .if1 .taken)))
+    omega (arith, ap length (steps-more (l .loop .n) tooMany (a .l) (a .step) (l .loop .d) (search needs) (search needs)))
 
 returns : tie.Need-returns Inv-loop μ-loop
 returns c =
-    let l = c .before .before .before in
+    let l = c .before .before in
     let a = l .before .args in
-    omega (arith, ap length (steps-stop (l .loop .n) tooMany (rooted (a .s)) (a .step) (l .loop .d) (sym (c .before .root-exceeds .ensures) ∙ c .if1 .left)))
+    omega (arith, ap length (steps-stop (l .loop .n) tooMany (a .l) (a .step) (l .loop .d) (search needs)))
 
 returns-2 : tie.Need-returns-2 Inv-loop μ-loop
 returns-2 c =
     let l = c .before in
     let a = l .before .args in
-    omega (arith, ap length (steps-none (l .loop .n) tooMany (rooted (a .s)) (a .step) (l .loop .d) (search needs)))
+    omega (arith, ap length (steps-none (l .loop .n) tooMany (a .l) (a .step) (l .loop .d) (search needs)))
 
 pub count-steps-spec : {M : Type 1} → statement M
 count-steps-spec =
-    tie.close (tie.spec Inv-loop μ-loop loop-holds root-exceeds-requires add-n loop-less loop-again returns returns-2)
+    tie.close (tie.spec Inv-loop μ-loop loop-holds add-n loop-less loop-again returns returns-2)

@@ -1,48 +1,53 @@
--- `fits` meets its contract.
-use Rattle.path_chop.proofs.Counts.{cap-big, cap-small}
-use Rattle.path_chop.specs.Call.{roomFor}
-use Rattle.refusal.specs.Limits.{mostPoints}
-use Prim.Native.Nat.{_*_}
-use Rattle.path.specs.Laid.{joined}
-use Rattle.path_chop.specs.Chop.{choppedOf}
-use lib.ListN.{length}
-use borrow.Author.Tests.{le-leb, lt-leb}
-use native.Mathlib.Omega.{arith}
+-- `fits` meets its contract: the starts are counted, the points bounded (`by-bound`) or counted (`by-count`).
 use borrow.Author.Needs.{needs}
+use mathlib.Core.Path.{sym, _∙_}
+use Rattle.path_chop.specs.Chop.{choppedOf}
+use Rattle.path_chop.proofs.Bounds.{starts-short, by-bound, by-count}
 use Rattle.path_chop.proofs.fits.Statement.{statement}
 use Rattle.path_chop.proofs.fits.Tie as tie
+
+kept-strokes-requires : tie.Need-kept-strokes-requires
+kept-strokes-requires c κs = search needs
+
+returns : tie.Need-returns
+returns c =
+    let a = c .before .before .before .before .args in
+    starts-short (choppedOf (a .step) (a .points .now) (a .starts .now)) (a .room) (a .start-room) _ (c .before .kept-strokes .ensures (a .step)) (c .if1 .taken)
+
+bound-strokes-requires : tie.Need-bound-strokes-requires
+bound-strokes-requires c κs = search needs
+
+enough-requires : tie.Need-enough-requires
+enough-requires c κs = search needs
+
+returns-2 : tie.Need-returns-2
+returns-2 c =
+    let a = c .before .before .before .before .before .before .before .args in
+    by-bound (choppedOf (a .step) (a .points .now) (a .starts .now)) (a .room) (a .start-room) _ (c .before .before .before .before .kept-strokes .ensures (a .step)) (c .before .before .before .if1 .left)
+    _ (c .before .before .bound-strokes .ensures .0) (sym (c .before .enough .ensures) ∙ c .if2 .taken)
 
 count-strokes-requires : tie.Need-count-strokes-requires
 count-strokes-requires c κs = search needs
 
-returns : tie.Need-returns
-unfolding roomFor
-returns c =
-    let a = c .before .before .before .before .before .args in
-    let q = c .before .before .count-strokes in
-    let n = length (joined (choppedOf (a .step) (a .points .now) (a .starts .now))) in
-    simp (lt-leb n mostPoints (cap-big n (q .result .points) (q .ensures .0) (c .if1 .taken)))
-
-mul-if2 : tie.Need-mul-if2
-mul-if2 c = search needs
-
-returns-2 : tie.Need-returns-2
-unfolding roomFor
-returns-2 c =
-    let a = c .before .before .before .before .before .before .before .args in
-    let q = c .before .before .before .before .count-strokes in
-    let n = length (joined (choppedOf (a .step) (a .points .now) (a .starts .now))) in
-    let m = cap-small n (q .result .points) (q .ensures .0) (c .before .before .if1 .left) in
-    simp (le-leb n mostPoints (omega arith), lt-leb (n * 3) (a .room) (omega arith))
+enough-requires-2 : tie.Need-enough-requires-2
+enough-requires-2 c κs = search needs
 
 returns-3 : tie.Need-returns-3
-unfolding roomFor
 returns-3 c =
-    let a = c .before .before .before .before .before .before .before .before .args in
-    let q = c .before .before .before .before .before .count-strokes in
-    let n = length (joined (choppedOf (a .step) (a .points .now) (a .starts .now))) in
-    let m = cap-small n (q .result .points) (q .ensures .0) (c .before .before .before .if1 .left) in
-    simp (le-leb n mostPoints (omega arith), le-leb (n * 3) (a .room) (omega arith), q .ensures .1)
+    let a = c .before .before .before .before .before .before .before .before .before .args in
+    c .enough2 .ensures
+    ∙ by-count (choppedOf (a .step) (a .points .now) (a .starts .now)) (a .room) (a .start-room) _ (c .before .before .before .before .before .before .kept-strokes .ensures (a .step)) (c .before .before .before .before .before .if1 .left)
+    _ (c .before .count-strokes .ensures)
 
 pub fits-spec : {M : Type 1} → statement M
-fits-spec = tie.close (tie.spec count-strokes-requires returns mul-if2 returns-2 returns-3)
+fits-spec =
+    tie.close
+    (tie.spec
+    kept-strokes-requires
+    returns
+    bound-strokes-requires
+    enough-requires
+    returns-2
+    count-strokes-requires
+    enough-requires-2
+    returns-3)

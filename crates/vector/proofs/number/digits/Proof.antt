@@ -1,71 +1,95 @@
--- `digits` meets its contract: the loop keeps `Step`, and `bit` is halved in each turn.
-use mathlib.Core.Path.{refl}
+-- `digits` meets its contract: half of the digits, the whole part of the root of n, and the other half by the division (`by-less`, `by-quotient`).
+use borrow.Author.Needs.{needs}
+use Prim.Native.Nat.{_-_, _*_, _/_, _%_, _^_}
 use native.Mathlib.Omega.{arith}
-use Rattle.vector.proofs.Roots.{Step, start, turn, paid, last}
+use Rattle.vector.proofs.Roots.{Sizes, sizes, by-less, by-quotient}
 use Rattle.vector.proofs.number.digits.Statement.{statement}
 use Rattle.vector.proofs.number.digits.Tie as tie
 
-abbrev Inv-loop : tie.InvT-loop
-Inv-loop n rest₀ q₀ bit₀ rest q bit = Step n rest q bit
+known : (c : tie.After-raise) → let n = c .before .before .before .args .n in let s = c .raise .result in Sizes n s ((n - s * s) * 2 ^ 27 / (2 * s)) ((n - s * s) * 2 ^ 27 % (2 * s))
+known c = let p = c .before .before .before .pre in sizes (c .before .before .before .args .n) (c .raise .result) (p .0) (p .1) (c .raise .ensures)
 
-abbrev μ-loop : tie.MeasureT-loop
-μ-loop n rest₀ q₀ bit₀ rest q bit = bit
+guess-requires : tie.Need-guess-requires
+guess-requires c κs = search needs
 
-loop-holds : tie.Need-loop-holds Inv-loop μ-loop
-loop-holds c = start (c .args .n) (c .pre)
+lower-requires : tie.Need-lower-requires
+lower-requires c κs = search needs
 
-mul-rest : tie.Need-mul-rest Inv-loop μ-loop
-mul-rest c = omega arith
+raise-requires : tie.Need-raise-requires
+raise-requires c κs = search needs
 
-mul-t : tie.Need-mul-t Inv-loop μ-loop
-mul-t c = omega arith
+mul-rest : tie.Need-mul-rest
+mul-rest c = search needs
 
-add-t : tie.Need-add-t Inv-loop μ-loop
-add-t c = omega arith
+sub-rest : tie.Need-sub-rest
+sub-rest c = search needs
 
-add-digit : tie.Need-add-digit Inv-loop μ-loop
-add-digit c = omega arith
+mul-rest-2 : tie.Need-mul-rest-2
+mul-rest-2 c = omega (arith, known c)
 
-sub-digit : tie.Need-sub-digit Inv-loop μ-loop
-sub-digit c = omega arith
+mul-q : tie.Need-mul-q
+mul-q c = omega (arith, known c)
 
-mul-rest-2 : tie.Need-mul-rest-2 Inv-loop μ-loop
-mul-rest-2 c = omega (arith, paid (c .before .loop .inv) _ _ refl refl .0)
+div-q : tie.Need-div-q
+div-q c = omega (arith, known c)
 
-sub-rest : tie.Need-sub-rest Inv-loop μ-loop
-sub-rest c = omega (arith, paid (c .before .loop .inv) _ _ refl refl .0)
+mul-if1 : tie.Need-mul-if1
+mul-if1 c = omega (arith, known c)
 
-mul-q : tie.Need-mul-q Inv-loop μ-loop
-mul-q c = omega (arith, paid (c .before .loop .inv) _ _ refl refl .1)
+rem-if1 : tie.Need-rem-if1
+rem-if1 c = omega (arith, known c)
 
-add-q : tie.Need-add-q Inv-loop μ-loop
-add-q c = omega (arith, paid (c .before .loop .inv) _ _ refl refl .1)
+mul-if1-2 : tie.Need-mul-if1-2
+mul-if1-2 c = omega (arith, known c)
 
-loop-less : tie.Need-loop-less Inv-loop μ-loop
-loop-less c = omega arith
+mul-if1-3 : tie.Need-mul-if1-3
+mul-if1-3 c = omega (arith, known c)
 
-loop-again : tie.Need-loop-again Inv-loop μ-loop
-loop-again c = turn (c .before .loop .inv) (c .loop-test .taken) _ _ refl refl
+mul-result : tie.Need-mul-result
+mul-result c = omega (arith, known (c .before))
 
-returns : tie.Need-returns Inv-loop μ-loop
-returns c = last _ _ _ _ (c .before .loop .inv) (c .loop-test .left)
+add-result : tie.Need-add-result
+add-result c = omega (arith, known (c .before))
+
+sub-result : tie.Need-sub-result
+sub-result c = omega (arith, known (c .before))
+
+returns : tie.Need-returns
+returns c =
+    let p = c .before .before .before .before .pre in
+    by-less (c .before .before .before .before .args .n) (c .before .raise .result) (p .0) (p .1) (c .before .raise .ensures) (c .if1 .taken)
+
+mul-result-2 : tie.Need-mul-result-2
+mul-result-2 c = omega (arith, known (c .before))
+
+add-result-2 : tie.Need-add-result-2
+add-result-2 c = omega (arith, known (c .before))
+
+returns-2 : tie.Need-returns-2
+returns-2 c =
+    let p = c .before .before .before .before .pre in
+    by-quotient (c .before .before .before .before .args .n) (c .before .raise .result) (p .0) (p .1) (c .before .raise .ensures) (c .if1 .left)
 
 pub digits-spec : {M : Type 1} → statement M
 digits-spec =
     tie.close
     (tie.spec
-    Inv-loop
-    μ-loop
-    loop-holds
+    guess-requires
+    lower-requires
+    raise-requires
     mul-rest
-    mul-t
-    add-t
-    add-digit
-    sub-digit
-    mul-rest-2
     sub-rest
+    mul-rest-2
     mul-q
-    add-q
-    loop-less
-    loop-again
-    returns)
+    div-q
+    mul-if1
+    rem-if1
+    mul-if1-2
+    mul-if1-3
+    mul-result
+    add-result
+    sub-result
+    returns
+    mul-result-2
+    add-result-2
+    returns-2)

@@ -13,7 +13,7 @@ add-n : tie.Need-add-n
 add-n c = search needs
 
 mul-n : tie.Need-mul-n
-mul-n c = omega (arith, twice (c .before .split .result .d) (c .before .split .result .e) (c .before .split .ensures .most))
+mul-n c = omega (arith, twice (c .before .split .result .d) (c .before .split .result .e) (c .before .split .ensures .least) (c .before .split .ensures .most) .1)
 
 sub-result : tie.Need-sub-result
 sub-result c = search needs
@@ -22,7 +22,7 @@ mul-result : tie.Need-mul-result
 mul-result c = search needs
 
 digits-requires : tie.Need-digits-requires
-digits-requires c κs = twice (c .before .split .result .d) (c .before .split .result .e) (c .before .split .ensures .most)
+digits-requires c κs = twice (c .before .split .result .d) (c .before .split .result .e) (c .before .split .ensures .least) (c .before .split .ensures .most)
 
 add-result : tie.Need-add-result
 add-result c = search needs

@@ -1,0 +1,13 @@
+-- `larger` meets its contract.
+use borrow.Author.Tests.{not-true}
+use Rattle.path_chop.proofs.larger.Statement.{statement}
+use Rattle.path_chop.proofs.larger.Tie as tie
+
+returns : tie.Need-returns
+returns c = rw (c .if1 .taken)
+
+returns-2 : tie.Need-returns-2
+returns-2 c = rw (c .if1 .left)
+
+pub larger-spec : {M : Type 1} → statement M
+larger-spec = tie.close (tie.spec returns returns-2)
