@@ -22,7 +22,8 @@ ghost use lib.Ieee.{Float, lt};
 ghost use lib.ListN.{length};
 ghost use Rattle.refusal.specs.Limits.{mostPoints};
 ghost use Rattle.vector.specs.Root.{rootOf};
-ghost use Rattle.vector.specs.Lengths.{orNan};
+ghost use Rattle.vector.specs.Lengths.{orNan, lengthOf};
+ghost use Rattle.vector.specs.Vectors.{subOf};
 ghost use Rattle.path.specs.Strokes.{pointAt, gather, strokesOf};
 ghost use Rattle.path.specs.Laid.{putPoints, pen, inked, out, push, pushAll, joined, nonEmpty};
 ghost use Rattle.path.specs.Left.{left};
@@ -76,18 +77,26 @@ fn write_steps(a: Vector, v: Vector, l: f64, step: f64, out: &mut [f64], at: usi
     o
 }
 
-// Writes what the span from a to b gives after a.
-fn write_span(a: Vector, b: Vector, step: f64, out: &mut [f64], at: usize) -> usize
-    requires { ⌜ at + length (span step a b) ≤ mostPoints ⌝ }
+// Writes what the span from a to b gives after a, where v is b from a and l its length.
+fn write_span(
+    a: Vector,
+    b: Vector,
+    v: Vector,
+    l: f64,
+    step: f64,
+    out: &mut [f64],
+    at: usize,
+) -> usize
+    requires { ⌜ (v ≡ subOf b a) × (l ≡ lengthOf v) × (at + length (span step a b) ≤ mostPoints) ⌝ }
     ensures { λ r. ⌜ pen (now (out .exit)) r ≡ inked putPoints (pen (now (out .entry)) at) (span step a b) ⌝ }
 {
-    let v = b.sub(a);
-    let o = write_steps(a, v, v.length(), step, out, at);
+    let o = write_steps(a, v, l, step, out, at);
     put_point(out, o, b);
     o + 1
 }
 
-// Writes what the points from place i up to e give after the point before them.
+// Writes what the points from place i up to e give after the point before them. The length of the next span
+// is asked for before the steps of this one are written, so that its root is worked out beside them.
 fn write_spans(
     points: &[f64],
     i: usize,
@@ -103,10 +112,16 @@ fn write_spans(
     let mut j = i;
     let mut o = at;
     let mut p = first;
+    let mut v = point_at(points, i).sub(first);
+    let mut l = v.length();
     while j < e {
         let q = point_at(points, j);
-        o = write_span(p, q, step, out, o);
+        let w = point_at(points, j + 1).sub(q);
+        let m = w.length();
+        o = write_span(p, q, v, l, step, out, o);
         p = q;
+        v = w;
+        l = m;
         j += 1;
     }
     o
