@@ -6,9 +6,11 @@ use Rattle.path.proofs.Lefts.{accept, refuse}
 use Rattle.path.proofs.Pushes.{front}
 use Rattle.path.specs.Laid.{putPoints, out, pushAll}
 use Rattle.path_adaptive.specs.Walk.{viewOf, walksOf, adapted, halvingsOf}
-use Rattle.path_adaptive.specs.Call.{adaptiveLeft}
+use Rattle.path_adaptive.specs.Call.{adaptiveVerdict, adaptiveLeft}
+use Rattle.path.specs.Left.{leftBy}
+use mathlib.Core.List.{[], _∷_}
 use lib.ListN.{length}
-use Prim.Native.Nat.{_-_, _/_}
+use Prim.Native.Nat.{ℕ, _-_, _/_}
 use native.Mathlib.Omega.{arith}
 use mathlib.Core.Path.{_≡_, refl, sym, ap, _∙_}
 use borrow.Author.Needs.{needs}
@@ -58,8 +60,10 @@ returns c =
     let e = c .before .before .before .before .before .write-strokes .ensures ∙ ap (λ (v : View). pushAll putPoints (out (a .out-points .now) (a .out-starts .now) front) (adapted (walksOf v (a .points .now) (a .starts .now)))) (c .before .before .before .before .before .before .before .before .before .lens-of .ensures ∙ c .before .before .before .before .before .before .before .before .before .before .view-of .ensures) in
     let n = pushed-counted (a .points .now) (a .starts .now) (a .matrix) (a .width) (a .height) (a .step) (a .tolerance) _ _ (a .out-points .now) (a .out-starts .now) _ z e in
     let h = accepted-at (a .points .now) (a .starts .now) (a .matrix) (a .width) (a .height) (a .step) (a .tolerance) _ _ refl z in
-    let k : c .before .before .before .before .before .write-strokes .result .points - length (a .points .now) / 3 ≡ halvingsOf (walksOf (viewOf (a .matrix) (a .width) (a .height) (a .step) (a .tolerance)) (a .points .now) (a .starts .now)) = omega (arith, n) in
-    rw k (accept _ _ _ (a .out-points .now) (a .out-starts .now) _ z e (h .fit) (h .start-fit))
+    let ws = walksOf (viewOf (a .matrix) (a .width) (a .height) (a .step) (a .tolerance)) (a .points .now) (a .starts .now) in
+    let k : c .before .before .before .before .before .write-strokes .result .points - length (a .points .now) / 3 ≡ halvingsOf ws = omega (arith, n) in
+    accept _ _ _ (a .out-points .now) (a .out-starts .now) _ z e (h .fit) (h .start-fit)
+    ∙ ap (λ (x : ℕ). leftBy (adaptiveVerdict (a .points .now) (a .starts .now) (a .matrix) (a .width) (a .height) (a .step) (a .tolerance) (length (a .out-points .now)) (length (a .out-starts .now))) (x ∷ []) (adapted ws) (a .out-points .now) (a .out-starts .now)) k
 
 returns-2 : tie.Need-returns-2
 unfolding adaptiveLeft
