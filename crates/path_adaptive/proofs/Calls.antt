@@ -1,5 +1,5 @@
 -- What an accepted chop_adaptive has been tested for, and what then holds. Assumes nothing.
-use mathlib.Core.Path.{_≡_, refl}
+use mathlib.Core.Path.{_≡_, refl, subst⁻¹}
 use mathlib.Core.Bool.{false}
 use mathlib.Core.List.{List}
 use Prim.Native.Nat.{ℕ, _*_, _/_, _≤_, min}
@@ -60,3 +60,8 @@ adaptive-accepted ps ss m width height step tolerance room startRoom h =
     let number = passed _ _ _ (count .1) in
     let numbers = passed _ _ _ (number .1) in
     good (viewOf m width height step tolerance) ps ss room startRoom (few-strokes (length ps / 3) (length ss) (count .0)) (accepted-runs (spentAll (Left (pointRoom room) startRoom) (walksOf (viewOf m width height step tolerance) ps ss)) (numbers .1))
+
+pub accepted-at : (ps : List Float) (ss : List ℕ) (m : Matrix) (width height step tolerance : Float) (room startRoom : ℕ) {v : View} → v ≡ viewOf m width height step tolerance
+    → adaptiveVerdict ps ss m width height step tolerance room startRoom ≡ Accepted → Good v ps ss room startRoom
+accepted-at ps ss m width height step tolerance room startRoom e h =
+    subst⁻¹ (λ (v : View). Good v ps ss room startRoom) e (adaptive-accepted ps ss m width height step tolerance room startRoom h)

@@ -1,5 +1,6 @@
 pub mod Walks
 pub mod Tallies
+pub mod Meets
 pub mod Calls
 pub mod Unique
 pub mod Halvings

@@ -1,5 +1,5 @@
 -- Laws of what a walk meets first. Assumes nothing.
-use mathlib.Core.Path.{_≡_, refl, sym, ap, _∙_}
+use mathlib.Core.Path.{_≡_, refl, sym, ap, subst⁻¹, _∙_}
 use mathlib.Core.Bool.{Bool, true, false, cond, true≢false}
 use mathlib.Core.List.{List, [], _∷_, _++_, append-nil, map}
 use Prim.Native.Nat.{ℕ, zero, suc, _+_, _-_, _/_, _≤_, _<_}
@@ -20,6 +20,7 @@ use Rattle.path_adaptive.specs.declared.Tally.{Tally}
 use Rattle.path_adaptive.specs.declared.Tally.the-variants.{Left, Met}
 use Rattle.path_adaptive.specs.Walk.{Walk, none, one, stuck, join, halved, strokeOf, adapted, halvingsOf, walkFrom, walksOf, shownOf, Calm}
 use Rattle.path_adaptive.specs.Tally.{spent, pointed, begun, spentStroke, spentAll, stoppedOf}
+use Rattle.path_adaptive.specs.Plain.{pointsOf}
 use Rattle.path_adaptive.proofs.Walks.{stroke-count}
 
 -- ---- one walk
@@ -109,6 +110,43 @@ spent-some t w z = rw (ne-eqb (length (w .points)) 0 z)
 pub stroke-first : (t : Tally) (v : Vector) (r w : Walk) → w ≡ join (one v) r → spent (spent (begun t) (one v)) r ≡ spentStroke t w
 stroke-first t v r w e = spent-join (begun t) (one v) r w e ∙ sym (spent-some t w (first-some v r w e))
 
+-- the first point of a stroke, and what follows it
+pub stroke-goes : (t s : Tally) (v : Vector) (r w : Walk) → w ≡ join (one v) r → s ≡ pointed (begun t) → spent s r ≡ spentStroke t w
+stroke-goes t s v r w e f = ap (λ (x : Tally). spent x r) (f ∙ spent-one (begun t) v (one v) refl) ∙ stroke-first t v r w e
+
+-- ---- the room for points never grows
+
+begun-cases : (p s : ℕ) (P : Tally → Type 0) → (s < 1 → P (Met Room)) → (1 ≤ s → P (Left p (s - 1))) → P (begun (Left p s))
+unfolding begun
+begun-cases p s P f g = go (leb 1 s) refl
+  where
+    go : (x : Bool) → leb 1 s ≡ x → P (cond x (Left p (s - 1)) (Met Room))
+    go true e = g (leb-true 1 s e)
+    go false e = f (leb-false 1 s e)
+
+spent-less : (t : Tally) (w : Walk) → pointsOf (spent t w) ≤ pointsOf t
+unfolding spent
+spent-less (Left p s) w = spent-cases p s w (λ t. pointsOf t ≤ p) (λ h. omega arith) (λ h d. omega arith) (λ h d. omega arith)
+spent-less (Met r) w = omega arith
+
+begun-less : (t : Tally) → pointsOf (begun t) ≤ pointsOf t
+unfolding begun
+begun-less (Left p s) = begun-cases p s (λ t. pointsOf t ≤ p) (λ h. omega arith) (λ h. omega arith)
+begun-less (Met r) = omega arith
+
+stroke-less : (t : Tally) (w : Walk) → pointsOf (spentStroke t w) ≤ pointsOf t
+unfolding spentStroke
+stroke-less t w = go (eqb (length (w .points)) 0)
+  where
+    go : (x : Bool) → pointsOf (cond x t (spent (begun t) w)) ≤ pointsOf t
+    go true = omega arith
+    go false = omega (arith, spent-less (begun t) w, begun-less t)
+
+pub first-less : (t s : Tally) (v : Vector) {p q : ℕ} → s ≡ pointed (begun t) → s ≡ Left p q → p ≤ pointsOf t
+first-less t s v f e =
+    let a = ap pointsOf (sym e ∙ f ∙ spent-one (begun t) v (one v) refl) in
+    omega (arith, spent-less (begun t) (one v), begun-less t)
+
 -- ---- all strokes
 
 pub met-all : (q : Refusal) (ws : List Walk) → spentAll (Met q) ws ≡ Met q
@@ -142,15 +180,6 @@ fine-more p s w ws h d z k f =
     not-none : (n : ℕ) → (n ≡ 0 → ⊥) → 0 < n
     not-none zero z = absurd (z refl)
     not-none (suc n) z = omega arith
-
--- what a stroke that has points leaves
-begun-cases : (p s : ℕ) (P : Tally → Type 0) → (s < 1 → P (Met Room)) → (1 ≤ s → P (Left p (s - 1))) → P (begun (Left p s))
-unfolding begun
-begun-cases p s P f g = go (leb 1 s) refl
-  where
-    go : (x : Bool) → leb 1 s ≡ x → P (cond x (Left p (s - 1)) (Met Room))
-    go true e = g (leb-true 1 s e)
-    go false e = f (leb-false 1 s e)
 
 stop-not : {A : Type 0} (q : Refusal) (ws : List Walk) → stoppedOf (spentAll (Met q) ws) ≡ false → A
 stop-not q ws h = absurd (true≢false (sym (ap stoppedOf (met-all q ws)) ∙ h))
@@ -200,10 +229,6 @@ module _ {w : Walk} {ws all : List Walk} (e : all ≡ w ∷ ws) where
   pub more-points : adapted all ≡ w .points ∷ adapted ws
   more-points = rw e
 
-  pub more-halvings : halvingsOf all ≡ w .halvings + halvingsOf ws
-  unfolding halvingsOf
-  more-halvings = rw e
-
   pub more-calm : Calm all → (w .deep ≡ false) × Calm ws
   unfolding Calm
   more-calm h = rw e at h
@@ -211,3 +236,6 @@ module _ {w : Walk} {ws all : List Walk} (e : all ≡ w ∷ ws) where
   pub more-spent : (t q : Tally) → q ≡ spentStroke t w → spentAll q ws ≡ spentAll t all
   unfolding spentAll
   more-spent t q g = rw (e, g)
+
+  pub more-less : (t q : Tally) → q ≡ spentStroke t w → pointsOf q ≤ pointsOf t
+  more-less t q g = subst⁻¹ (λ (x : Tally). pointsOf x ≤ pointsOf t) g (stroke-less t w)

@@ -35,6 +35,19 @@ module _ (view : View) (a b : Shown) where
   walk-half zero m h z f = absurd (z refl)
   walk-half (suc d) m h z f = let k : suc d - 1 ≡ d = omega arith in rw (h, k, f)
 
+-- a view and two ends that equal those at hand
+module _ {view x : View} {a b s t : Shown} (e : x ≡ view) (f : s ≡ a) (g : t ≡ b) where
+  pub ends-are : {r y : Bool} → r ≡ endsOf x s t → r ≡ y → endsOf view a b ≡ y
+  ends-are h k = sym (h ∙ ap (λ (v : View). endsOf v s t) e ∙ ap (λ (p : Shown). endsOf view p t) f ∙ ap (endsOf view a) g) ∙ k
+
+  pub halves-are : (d : ℕ) (m : Shown) → endsOf view a b ≡ false → (d ≡ 0 → ⊥) → m ≡ middleOf x s t
+      → walk d view a b ≡ halved (join (walk (d - 1) view a m) (walk (d - 1) view m b))
+  halves-are d m h z k =
+      walk-half view a b d m h z (k ∙ ap (λ (v : View). middleOf v s t) e ∙ ap (λ (p : Shown). middleOf view p t) f ∙ ap (middleOf view a) g)
+
+pub shown-are : {view x : View} {u v : Vector} {q : Shown} → x ≡ view → v ≡ u → q ≡ shownOf x v → q ≡ shownOf view u
+shown-are {view} {x} {u} {v} e f h = h ∙ ap (λ (y : View). shownOf y v) e ∙ ap (shownOf view) f
+
 -- ---- two walks that come to their ends
 
 -- l and then r are w, with n halvings more
@@ -76,6 +89,9 @@ both-ink {n} {l} {r} b p q s f g = g ∙ rw (f, b .points-are) (ink-append point
 
 pub one-ink : (v : Vector) (w : Walk) → w ≡ one v → (b q : List Float) (o : ℕ) → q ≡ putPoint b o v → pen q (o + 1) ≡ inked putPoints (pen b o) (w .points)
 one-ink v w e b q o g = rw (g, e) (sym (ink-none points-lie (pen (putPoint b o v) (o + 1))) ∙ ink-more b o v [])
+
+pub pen-are : {a b : List Float} {i j : ℕ} {s : Pen Float} → a ≡ b → i ≡ j → pen b j ≡ s → pen a i ≡ s
+pen-are e f h = cc
 
 -- ---- the spans over the points from place i up to e, and a stroke
 

@@ -1,4 +1,5 @@
 pub mod Walk
 pub mod Tally
+pub mod Plain
 pub mod Call
 pub mod Cases

@@ -11,10 +11,8 @@ use Rattle.vector.specs.Vectors.{addOf, mulScalarOf, distanceSquaredOf}
 use Rattle.vector.specs.Lengths.{zero64}
 use Rattle.vector.specs.Matrices.{mulPositionWOf}
 use Rattle.path.specs.Strokes.{pointAt, strokesOf}
-use Rattle.path.specs.declared.Place.{Place}
 use Rattle.path_adaptive.specs.declared.View.{View}
 use Rattle.path_adaptive.specs.declared.Shown.{Shown}
-use Rattle.path_adaptive.specs.declared.Progress.{Progress}
 
 abbrev pub viewOf : Matrix → Float → Float → Float → Float → View
 viewOf m width height step tolerance = record { matrix = m; width = width; height = height; square = mul binary64 step step; tolerance = tolerance }
@@ -100,7 +98,3 @@ halvingsOf (w ∷ ws) = w .halvings + halvingsOf ws
 unfoldable pub Calm : List Walk → Type 0
 Calm [] = Unit {0}
 Calm (w ∷ ws) = (w .deep ≡ false) × Calm ws
-
--- the places in the course of a call
-abbrev pub placeOf : Progress → Place
-placeOf w = record { points = w .points; starts = w .starts }

@@ -1,4 +1,5 @@
 // Halving the spans of strokes until they are short on the screen: path_chop_adaptive of the source, over lent lists.
+use path::Place;
 use path::coordinates_good;
 use path::counted;
 use path::end_of;
@@ -14,16 +15,17 @@ use refusal::Verdict;
 use vector::Vector;
 use vector::matrix::Matrix;
 ghost use mathlib.Core.Path.{_≡_};
-ghost use mathlib.Core.Bool.{true, false};
-ghost use Prim.Native.Nat.{_+_, _-_, _/_, _≤_, _<_};
+ghost use mathlib.Core.Bool.{false};
+ghost use Prim.Native.Nat.{_+_, _-_, _≤_, _<_};
 ghost use lib.ListN.{length};
 ghost use Rattle.refusal.specs.Limits.{mostPoints};
 ghost use Rattle.path.specs.Strokes.{pointAt, gather};
 ghost use Rattle.path.specs.Laid.{putPoints, pen, inked, out, push, pushAll, joined};
 ghost use Rattle.path.specs.Left.{left};
 ghost use Rattle.path.specs.Tests.{coordinatesGood};
-ghost use Rattle.path_adaptive.specs.Walk.{viewOf, shownOf, middleOf, bothBelow, bothAbove, outsideOf, endsOf, walk, walkFrom, strokeOf, walksOf, adapted, halvingsOf, Calm, placeOf};
-ghost use Rattle.path_adaptive.specs.Tally.{spent, pointed, begun, spentStroke, spentAll, verdictOf, stoppedOf};
+ghost use Rattle.path_adaptive.specs.Walk.{viewOf, shownOf, middleOf, bothBelow, bothAbove, outsideOf, endsOf, one, walk, walkFrom, strokeOf, walksOf, adapted, Calm};
+ghost use Rattle.path_adaptive.specs.Tally.{pointed, begun, spentStroke, spentAll, verdictOf};
+ghost use Rattle.path_adaptive.specs.Plain.{viewAt, shownAt, tallyOf, pointsOf, Meets};
 ghost use Rattle.path_adaptive.specs.Call.{said, entriesOf, toleranceGood, numbersGood, pointRoom, adaptiveVerdict, adaptiveLeft};
 
 // What chop_adaptive wrote and how many halvings it made, or why it was refused.
@@ -57,17 +59,74 @@ pub enum Tally {
     Met(Refusal),
 }
 
-// Where the next point goes, and how many halvings were made.
-pub struct Cut {
-    pub points: usize,
-    pub halvings: usize,
+// How many halvings may lie on each other.
+const DEPTH: u32 = 64;
+
+// A tally in one number, for the walk of a span: 0 where a span was too deep, 1 where room lacked, else two more than the points left.
+const TOO_DEEP: usize = 0;
+
+const NO_ROOM: usize = 1;
+
+const RUNNING: usize = 2;
+
+// A view as its numbers: the matrix by rows, the width, the height, the square of a step, the tolerance.
+fn lens_of(view: View) -> [f64; 20]
+    ensures { λ r. ⌜ viewAt r ≡ view ⌝ }
+{
+    let m = view.matrix;
+    [
+        m.x00,
+        m.x01,
+        m.x02,
+        m.x03,
+        m.x10,
+        m.x11,
+        m.x12,
+        m.x13,
+        m.x20,
+        m.x21,
+        m.x22,
+        m.x23,
+        m.x30,
+        m.x31,
+        m.x32,
+        m.x33,
+        view.width,
+        view.height,
+        view.square,
+        view.tolerance,
+    ]
 }
 
-// Where the next point and the next start go, and how many halvings were made.
-pub struct Progress {
-    pub points: usize,
-    pub starts: usize,
-    pub halvings: usize,
+// The view behind its numbers.
+fn view_at(lens: &[f64; 20]) -> View
+    ensures { λ r. ⌜ r ≡ viewAt (now (lens .entry)) ⌝ }
+{
+    let m = Matrix {
+        x00: lens[0],
+        x01: lens[1],
+        x02: lens[2],
+        x03: lens[3],
+        x10: lens[4],
+        x11: lens[5],
+        x12: lens[6],
+        x13: lens[7],
+        x20: lens[8],
+        x21: lens[9],
+        x22: lens[10],
+        x23: lens[11],
+        x30: lens[12],
+        x31: lens[13],
+        x32: lens[14],
+        x33: lens[15],
+    };
+    View {
+        matrix: m,
+        width: lens[16],
+        height: lens[17],
+        square: lens[18],
+        tolerance: lens[19],
+    }
 }
 
 // A point with its place on the screen.
@@ -141,16 +200,6 @@ fn ends(view: View, a: Shown, b: Shown) -> bool
     p.distance_squared(q) < view.tolerance
 }
 
-// Whether a refusal was met.
-fn stopped(t: Tally) -> bool
-    ensures { λ r. ⌜ r ≡ stoppedOf t ⌝ }
-{
-    match t {
-        Tally::Left(_, _) => false,
-        Tally::Met(_) => true,
-    }
-}
-
 // After a point.
 fn spend(t: Tally) -> Tally
     ensures { λ r. ⌜ r ≡ pointed t ⌝ }
@@ -181,187 +230,364 @@ fn begin(t: Tally) -> Tally
     }
 }
 
-// What the walk of a span meets, left half first, with a falling depth. Nothing is looked at after a refusal.
-// The ends come as four vectors: a pair is copied in sixteen bytes that lie across what was just stored, and waits.
-fn measure(
-    view: View,
-    a: Vector,
-    a_seen: Vector,
-    b: Vector,
-    b_seen: Vector,
-    depth: u32,
-    t: Tally,
-) -> Tally
-    ensures { λ r. ⌜ r ≡ spent t (walk depth view (record { here = a; seen = «a_seen» }) (record { here = b; seen = «b_seen» })) ⌝ }
+// A point and its place on the screen from their six numbers.
+fn shown_at(x: f64, y: f64, z: f64, u: f64, v: f64, w: f64) -> Shown
+    ensures { λ r. ⌜ r ≡ shownAt x y z u v w ⌝ }
 {
-    if stopped(t) {
-        return t;
+    Shown {
+        here: Vector { x: x, y: y, z: z },
+        seen: Vector { x: u, y: v, z: w },
     }
-    let p = Shown {
-        here: a,
-        seen: a_seen,
-    };
-    let q = Shown {
-        here: b,
-        seen: b_seen,
-    };
-    if ends(view, p, q) {
-        return spend(t);
-    }
-    if depth == 0 {
-        return Tally::Met(Refusal::Deep);
-    }
-    let m = middle(view, p, q);
-    let l = measure(view, a, a_seen, m.here, m.seen, depth - 1, t);
-    measure(view, m.here, m.seen, b, b_seen, depth - 1, l)
 }
 
-// Writes the points of the walk of a span from place o on, where it does not end too deep, and counts the halvings:
-// one point more than halvings is written, so the count alone says where the next goes.
+// What the walk of a span that is halved meets, left half first, with a falling depth: see tally_of for the numbers.
+// All comes as plain numbers, which are passed in registers, and the screen behind a reference: a struct is copied at each call.
+fn measure(
+    lens: &[f64; 20],
+    ax: f64,
+    ay: f64,
+    az: f64,
+    au: f64,
+    av: f64,
+    aw: f64,
+    bx: f64,
+    by: f64,
+    bz: f64,
+    bu: f64,
+    bv: f64,
+    bw: f64,
+    depth: u32,
+    n: usize,
+) -> usize
+    requires { ⌜ (endsOf (viewAt (now lens)) (shownAt ax ay az au av aw) (shownAt bx by bz bu bv bw) ≡ false) × (2 ≤ n) ⌝ }
+    ensures { λ r. ⌜ Meets n (walk depth (viewAt (now (lens .entry))) (shownAt ax ay az au av aw) (shownAt bx by bz bu bv bw)) r ⌝ }
+{
+    if depth == 0 {
+        return TOO_DEEP;
+    }
+    let view = view_at(lens);
+    let p = shown_at(ax, ay, az, au, av, aw);
+    let q = shown_at(bx, by, bz, bu, bv, bw);
+    let m = middle(view, p, q);
+    let h = m.here;
+    let s = m.seen;
+    let l = if ends(view, p, m) {
+        n - 1
+    } else {
+        measure(
+            lens,
+            ax,
+            ay,
+            az,
+            au,
+            av,
+            aw,
+            h.x,
+            h.y,
+            h.z,
+            s.x,
+            s.y,
+            s.z,
+            depth - 1,
+            n,
+        )
+    };
+    if l < RUNNING {
+        return l;
+    }
+    if ends(view, m, q) {
+        return l - 1;
+    }
+    measure(
+        lens,
+        h.x,
+        h.y,
+        h.z,
+        s.x,
+        s.y,
+        s.z,
+        bx,
+        by,
+        bz,
+        bu,
+        bv,
+        bw,
+        depth - 1,
+        l,
+    )
+}
+
+// Writes a point, and says where the next goes.
+fn add_point(out: &mut [f64], o: usize, v: Vector) -> usize
+    requires { ⌜ o < mostPoints ⌝ }
+    ensures { λ r. ⌜ pen (now (out .exit)) r ≡ inked putPoints (pen (now (out .entry)) o) (one v .points) ⌝ }
+{
+    put_point(out, o, v);
+    o + 1
+}
+
+// Writes the points of the walk of a span that is halved from place o on, where it does not end too deep, and says where the next goes.
 fn halve(
-    view: View,
-    a: Vector,
-    a_seen: Vector,
-    b: Vector,
-    b_seen: Vector,
+    lens: &[f64; 20],
+    ax: f64,
+    ay: f64,
+    az: f64,
+    au: f64,
+    av: f64,
+    aw: f64,
+    bx: f64,
+    by: f64,
+    bz: f64,
+    bu: f64,
+    bv: f64,
+    bw: f64,
     depth: u32,
     out: &mut [f64],
     o: usize,
 ) -> usize
-    requires { ⌜ (walk depth view (record { here = a; seen = «a_seen» }) (record { here = b; seen = «b_seen» }) .deep ≡ false) × (o + length (walk depth view (record { here = a; seen = «a_seen» }) (record { here = b; seen = «b_seen» }) .points) ≤ mostPoints) ⌝ }
-    ensures { λ r. ⌜ (pen (now (out .exit)) (o + r + 1) ≡ inked putPoints (pen (now (out .entry)) o) (walk depth view (record { here = a; seen = «a_seen» }) (record { here = b; seen = «b_seen» }) .points))
-        × (r ≡ walk depth view (record { here = a; seen = «a_seen» }) (record { here = b; seen = «b_seen» }) .halvings) ⌝ }
+    requires { ⌜ (endsOf (viewAt (now lens)) (shownAt ax ay az au av aw) (shownAt bx by bz bu bv bw) ≡ false)
+        × (walk depth (viewAt (now lens)) (shownAt ax ay az au av aw) (shownAt bx by bz bu bv bw) .deep ≡ false)
+        × (o + length (walk depth (viewAt (now lens)) (shownAt ax ay az au av aw) (shownAt bx by bz bu bv bw) .points) ≤ mostPoints) ⌝ }
+    ensures { λ r. ⌜ pen (now (out .exit)) r ≡ inked putPoints (pen (now (out .entry)) o) (walk depth (viewAt (now (lens .entry))) (shownAt ax ay az au av aw) (shownAt bx by bz bu bv bw) .points) ⌝ }
 {
-    let p = Shown {
-        here: a,
-        seen: a_seen,
-    };
-    let q = Shown {
-        here: b,
-        seen: b_seen,
-    };
-    if ends(view, p, q) {
-        put_point(out, o, b);
-        return 0;
-    }
     if depth == 0 {
-        return 0;
+        return o;
     }
+    let view = view_at(lens);
+    let p = shown_at(ax, ay, az, au, av, aw);
+    let q = shown_at(bx, by, bz, bu, bv, bw);
     let m = middle(view, p, q);
-    let l = halve(view, a, a_seen, m.here, m.seen, depth - 1, out, o);
-    let r = halve(view, m.here, m.seen, b, b_seen, depth - 1, out, o + l + 1);
-    l + r + 1
+    let h = m.here;
+    let s = m.seen;
+    let l = if ends(view, p, m) {
+        add_point(out, o, h)
+    } else {
+        halve(
+            lens,
+            ax,
+            ay,
+            az,
+            au,
+            av,
+            aw,
+            h.x,
+            h.y,
+            h.z,
+            s.x,
+            s.y,
+            s.z,
+            depth - 1,
+            out,
+            o,
+        )
+    };
+    if ends(view, m, q) {
+        return add_point(out, l, q.here);
+    }
+    halve(
+        lens,
+        h.x,
+        h.y,
+        h.z,
+        s.x,
+        s.y,
+        s.z,
+        bx,
+        by,
+        bz,
+        bu,
+        bv,
+        bw,
+        depth - 1,
+        out,
+        l,
+    )
+}
+
+// What the walk of a span meets.
+fn measure_span(lens: &[f64; 20], a: Shown, b: Shown, n: usize) -> usize
+    ensures { λ r. ⌜ Meets n (walk 64 (viewAt (now (lens .entry))) a b) r ⌝ }
+{
+    if n < RUNNING {
+        return n;
+    }
+    if ends(view_at(lens), a, b) {
+        return n - 1;
+    }
+    let p = a.here;
+    let s = a.seen;
+    let q = b.here;
+    let t = b.seen;
+    measure(
+        lens,
+        p.x,
+        p.y,
+        p.z,
+        s.x,
+        s.y,
+        s.z,
+        q.x,
+        q.y,
+        q.z,
+        t.x,
+        t.y,
+        t.z,
+        DEPTH,
+        n,
+    )
 }
 
 // What the spans over the points from place i up to e meet, after the point before them.
-fn measure_spans(view: View, points: &[f64], i: usize, e: usize, first: Shown, t: Tally) -> Tally
-    ensures { λ r. ⌜ r ≡ spent t (walkFrom view first (gather (pointAt (now (points .entry))) i (e - i))) ⌝ }
+fn measure_spans(
+    lens: &[f64; 20],
+    points: &[f64],
+    i: usize,
+    e: usize,
+    first: Shown,
+    n: usize,
+) -> usize
+    ensures { λ r. ⌜ Meets n (walkFrom (viewAt (now (lens .entry))) first (gather (pointAt (now (points .entry))) i (e - i))) r ⌝ }
 {
     let mut j = i;
     let mut p = first;
-    let mut s = t;
+    let mut k = n;
     while j < e {
-        let q = show(view, point_at(points, j));
-        s = measure(view, p.here, p.seen, q.here, q.seen, 64, s);
+        let q = show(view_at(lens), point_at(points, j));
+        k = measure_span(lens, p, q, k);
         p = q;
         j += 1;
     }
-    s
+    k
 }
 
 // What a stroke from place a up to e meets: its start with its first point, then its spans.
-fn measure_stroke(view: View, points: &[f64], a: usize, e: usize, t: Tally) -> Tally
-    ensures { λ r. ⌜ r ≡ spentStroke t (strokeOf view (gather (pointAt (now (points .entry))) a (e - a))) ⌝ }
+fn measure_stroke(lens: &[f64; 20], points: &[f64], a: usize, e: usize, t: Tally) -> Tally
+    requires { ⌜ pointsOf t ≤ mostPoints ⌝ }
+    ensures { λ r. ⌜ r ≡ spentStroke t (strokeOf (viewAt (now (lens .entry))) (gather (pointAt (now (points .entry))) a (e - a))) ⌝ }
 {
     if e <= a {
         return t;
     }
-    let v = point_at(points, a);
+    let i = a + 1;
     let s = spend(begin(t));
-    measure_spans(view, points, a + 1, e, show(view, v), s)
+    match s {
+        Tally::Left(left, starts) => {
+            let first = show(view_at(lens), point_at(points, a));
+            tally_of(
+                measure_spans(lens, points, i, e, first, left + RUNNING),
+                starts,
+            )
+        }
+        Tally::Met(r) => Tally::Met(r),
+    }
 }
 
 // What all strokes meet.
-fn measure_strokes(view: View, points: &[f64], starts: &[u32], t: Tally) -> Tally
-    ensures { λ r. ⌜ r ≡ spentAll t (walksOf view (now (points .entry)) (now (starts .entry))) ⌝ }
+fn measure_strokes(lens: &[f64; 20], points: &[f64], starts: &[u32], t: Tally) -> Tally
+    requires { ⌜ pointsOf t ≤ mostPoints ⌝ }
+    ensures { λ r. ⌜ r ≡ spentAll t (walksOf (viewAt (now (lens .entry))) (now (points .entry)) (now (starts .entry))) ⌝ }
 {
     let mut s = t;
     let mut j = 0;
     while j < starts.len() {
         let a = starts[j] as usize;
         let e = end_of(starts, j, points.len() / 3);
-        s = measure_stroke(view, points, a, e, s);
+        s = measure_stroke(lens, points, a, e, s);
         j += 1;
     }
     s
 }
 
+// Writes what a span gives.
+fn write_span(lens: &[f64; 20], a: Shown, b: Shown, out: &mut [f64], o: usize) -> usize
+    requires { ⌜ (walk 64 (viewAt (now lens)) a b .deep ≡ false) × (o + length (walk 64 (viewAt (now lens)) a b .points) ≤ mostPoints) ⌝ }
+    ensures { λ r. ⌜ pen (now (out .exit)) r ≡ inked putPoints (pen (now (out .entry)) o) (walk 64 (viewAt (now (lens .entry))) a b .points) ⌝ }
+{
+    let q = b.here;
+    if ends(view_at(lens), a, b) {
+        return add_point(out, o, q);
+    }
+    let p = a.here;
+    let s = a.seen;
+    let t = b.seen;
+    halve(
+        lens,
+        p.x,
+        p.y,
+        p.z,
+        s.x,
+        s.y,
+        s.z,
+        q.x,
+        q.y,
+        q.z,
+        t.x,
+        t.y,
+        t.z,
+        DEPTH,
+        out,
+        o,
+    )
+}
+
 // Writes what the spans over the points from place i up to e give.
 fn write_spans(
-    view: View,
+    lens: &[f64; 20],
     points: &[f64],
     i: usize,
     e: usize,
     first: Shown,
     out: &mut [f64],
-    k: Cut,
-) -> Cut
-    requires { ⌜ (walkFrom view first (gather (pointAt (now points)) i (e - i)) .deep ≡ false)
-        × (k .points + length (walkFrom view first (gather (pointAt (now points)) i (e - i)) .points) ≤ mostPoints)
-        × (k .halvings + walkFrom view first (gather (pointAt (now points)) i (e - i)) .halvings ≤ mostPoints) ⌝ }
-    ensures { λ r. ⌜ (pen (now (out .exit)) (r .points) ≡ inked putPoints (pen (now (out .entry)) (k .points)) (walkFrom view first (gather (pointAt (now (points .entry))) i (e - i)) .points))
-        × (r .halvings ≡ k .halvings + walkFrom view first (gather (pointAt (now (points .entry))) i (e - i)) .halvings) ⌝ }
+    o: usize,
+) -> usize
+    requires { ⌜ (walkFrom (viewAt (now lens)) first (gather (pointAt (now points)) i (e - i)) .deep ≡ false)
+        × (o + length (walkFrom (viewAt (now lens)) first (gather (pointAt (now points)) i (e - i)) .points) ≤ mostPoints) ⌝ }
+    ensures { λ r. ⌜ pen (now (out .exit)) r ≡ inked putPoints (pen (now (out .entry)) o) (walkFrom (viewAt (now (lens .entry))) first (gather (pointAt (now (points .entry))) i (e - i)) .points) ⌝ }
 {
     let mut j = i;
     let mut p = first;
-    let mut c = k;
+    let mut k = o;
     while j < e {
-        let q = show(view, point_at(points, j));
-        let h = halve(view, p.here, p.seen, q.here, q.seen, 64, out, c.points);
-        c = Cut {
-            points: c.points + h + 1,
-            halvings: c.halvings + h,
-        };
+        let q = show(view_at(lens), point_at(points, j));
+        k = write_span(lens, p, q, out, k);
         p = q;
         j += 1;
     }
-    c
+    k
 }
 
 // Writes a stroke that is not empty.
-fn write_adapted(view: View, points: &[f64], a: usize, e: usize, out: &mut [f64], k: Cut) -> Cut
-    requires { ⌜ (a < e) × (strokeOf view (gather (pointAt (now points)) a (e - a)) .deep ≡ false)
-        × (k .points + length (strokeOf view (gather (pointAt (now points)) a (e - a)) .points) ≤ mostPoints)
-        × (k .halvings + strokeOf view (gather (pointAt (now points)) a (e - a)) .halvings ≤ mostPoints) ⌝ }
-    ensures { λ r. ⌜ (pen (now (out .exit)) (r .points) ≡ inked putPoints (pen (now (out .entry)) (k .points)) (strokeOf view (gather (pointAt (now (points .entry))) a (e - a)) .points))
-        × (r .halvings ≡ k .halvings + strokeOf view (gather (pointAt (now (points .entry))) a (e - a)) .halvings) ⌝ }
+fn write_adapted(
+    lens: &[f64; 20],
+    points: &[f64],
+    a: usize,
+    e: usize,
+    out: &mut [f64],
+    o: usize,
+) -> usize
+    requires { ⌜ (a < e) × (strokeOf (viewAt (now lens)) (gather (pointAt (now points)) a (e - a)) .deep ≡ false)
+        × (o + length (strokeOf (viewAt (now lens)) (gather (pointAt (now points)) a (e - a)) .points) ≤ mostPoints) ⌝ }
+    ensures { λ r. ⌜ pen (now (out .exit)) r ≡ inked putPoints (pen (now (out .entry)) o) (strokeOf (viewAt (now (lens .entry))) (gather (pointAt (now (points .entry))) a (e - a)) .points) ⌝ }
 {
     let v = point_at(points, a);
-    let o = k.points;
-    put_point(out, o, v);
-    let c = Cut {
-        points: o + 1,
-        halvings: k.halvings,
-    };
-    write_spans(view, points, a + 1, e, show(view, v), out, c)
+    let k = add_point(out, o, v);
+    write_spans(lens, points, a + 1, e, show(view_at(lens), v), out, k)
 }
 
 // Writes a stroke and its start; of an empty one nothing.
 fn write_stroke(
-    view: View,
+    lens: &[f64; 20],
     points: &[f64],
     a: usize,
     e: usize,
     out_points: &mut [f64],
     out_starts: &mut [u32],
-    w: Progress,
-) -> Progress
-    requires { ⌜ (strokeOf view (gather (pointAt (now points)) a (e - a)) .deep ≡ false)
-        × (w .points + length (strokeOf view (gather (pointAt (now points)) a (e - a)) .points) ≤ mostPoints) × (w .starts ≤ mostPoints)
-        × (w .halvings + strokeOf view (gather (pointAt (now points)) a (e - a)) .halvings ≤ mostPoints) ⌝ }
-    ensures { λ r. ⌜ (out (now («out_points» .exit)) (now («out_starts» .exit)) (placeOf r)
-        ≡ push putPoints (out (now («out_points» .entry)) (now («out_starts» .entry)) (placeOf w)) (strokeOf view (gather (pointAt (now (points .entry))) a (e - a)) .points))
-        × (r .halvings ≡ w .halvings + strokeOf view (gather (pointAt (now (points .entry))) a (e - a)) .halvings) ⌝ }
+    w: Place,
+) -> Place
+    requires { ⌜ (strokeOf (viewAt (now lens)) (gather (pointAt (now points)) a (e - a)) .deep ≡ false)
+        × (w .points + length (strokeOf (viewAt (now lens)) (gather (pointAt (now points)) a (e - a)) .points) ≤ mostPoints) × (w .starts ≤ mostPoints) ⌝ }
+    ensures { λ r. ⌜ out (now («out_points» .exit)) (now («out_starts» .exit)) r
+        ≡ push putPoints (out (now («out_points» .entry)) (now («out_starts» .entry)) w) (strokeOf (viewAt (now (lens .entry))) (gather (pointAt (now (points .entry))) a (e - a)) .points) ⌝ }
 {
     if e <= a {
         return w;
@@ -369,42 +595,34 @@ fn write_stroke(
     let at = w.points;
     let k = w.starts;
     put_number(out_starts, k, at as u32);
-    let b = Cut {
-        points: at,
-        halvings: w.halvings,
-    };
-    let c = write_adapted(view, points, a, e, out_points, b);
-    Progress {
-        points: c.points,
+    Place {
+        points: write_adapted(lens, points, a, e, out_points, at),
         starts: k + 1,
-        halvings: c.halvings,
     }
 }
 
 // Writes every stroke.
 fn write_strokes(
-    view: View,
+    lens: &[f64; 20],
     points: &[f64],
     starts: &[u32],
     out_points: &mut [f64],
     out_starts: &mut [u32],
-) -> Progress
-    requires { ⌜ Calm (walksOf view (now points) (now starts)) × (length (joined (adapted (walksOf view (now points) (now starts)))) ≤ mostPoints)
-        × (length (now starts) ≤ mostPoints) × (halvingsOf (walksOf view (now points) (now starts)) ≤ mostPoints) ⌝ }
-    ensures { λ r. ⌜ (out (now («out_points» .exit)) (now («out_starts» .exit)) (placeOf r)
-        ≡ pushAll putPoints (out (now («out_points» .entry)) (now («out_starts» .entry)) (record { points = 0; starts = 0 })) (adapted (walksOf view (now (points .entry)) (now (starts .entry)))))
-        × (r .halvings ≡ halvingsOf (walksOf view (now (points .entry)) (now (starts .entry)))) ⌝ }
+) -> Place
+    requires { ⌜ Calm (walksOf (viewAt (now lens)) (now points) (now starts)) × (length (joined (adapted (walksOf (viewAt (now lens)) (now points) (now starts)))) ≤ mostPoints)
+        × (length (now starts) ≤ mostPoints) ⌝ }
+    ensures { λ r. ⌜ out (now («out_points» .exit)) (now («out_starts» .exit)) r
+        ≡ pushAll putPoints (out (now («out_points» .entry)) (now («out_starts» .entry)) (record { points = 0; starts = 0 })) (adapted (walksOf (viewAt (now (lens .entry))) (now (points .entry)) (now (starts .entry)))) ⌝ }
 {
-    let mut w = Progress {
+    let mut w = Place {
         points: 0,
         starts: 0,
-        halvings: 0,
     };
     let mut i = 0;
     while i < starts.len() {
         let a = starts[i] as usize;
         let e = end_of(starts, i, points.len() / 3);
-        w = write_stroke(view, points, a, e, out_points, out_starts, w);
+        w = write_stroke(lens, points, a, e, out_points, out_starts, w);
         i += 1;
     }
     w
@@ -488,6 +706,19 @@ fn point_room(room: usize) -> usize
     n
 }
 
+// The tally of a number.
+fn tally_of(n: usize, starts: usize) -> Tally
+    ensures { λ r. ⌜ r ≡ tallyOf n starts ⌝ }
+{
+    if n == TOO_DEEP {
+        return Tally::Met(Refusal::Deep);
+    }
+    if n == NO_ROOM {
+        return Tally::Met(Refusal::Room);
+    }
+    Tally::Left(n - RUNNING, starts)
+}
+
 // A tally as a verdict.
 fn verdict_of(t: Tally) -> Verdict
     ensures { λ r. ⌜ r ≡ verdictOf t ⌝ }
@@ -524,9 +755,9 @@ fn adaptive_verdict(
     if !numbers_good(matrix, width, height, step, tolerance) {
         return Verdict::Refused(Refusal::Number);
     }
-    let view = view_of(matrix, width, height, step, tolerance);
+    let lens = lens_of(view_of(matrix, width, height, step, tolerance));
     let t = Tally::Left(point_room(room), start_room);
-    verdict_of(measure_strokes(view, points, starts, t))
+    verdict_of(measure_strokes(&lens, points, starts, t))
 }
 
 // Halves every span until it is short on the screen.
@@ -557,12 +788,12 @@ pub fn chop_adaptive(
     );
     match v {
         Verdict::Accepted => {
-            let view = view_of(matrix, width, height, step, tolerance);
-            let w = write_strokes(view, points, starts, out_points, out_starts);
+            let lens = lens_of(view_of(matrix, width, height, step, tolerance));
+            let w = write_strokes(&lens, points, starts, out_points, out_starts);
             Adapted::Wrote {
                 points: w.points,
                 starts: w.starts,
-                halvings: w.halvings,
+                halvings: w.points - points.len() / 3,
             }
         }
         Verdict::Refused(r) => Adapted::Refused(r),

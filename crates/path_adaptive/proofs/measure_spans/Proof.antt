@@ -2,24 +2,28 @@
 use borrow.Author.Needs.{needs}
 use Rattle.path_adaptive.specs.declared.Tally.{Tally}
 use Rattle.path.specs.Strokes.{pointAt, gather}
-use Rattle.path_adaptive.proofs.Walks.{from-more, from-none}
+use Rattle.path_adaptive.proofs.Walks.{shown-are, from-more, from-none}
 use Rattle.path_adaptive.proofs.Tallies.{spent-none, spent-join}
 use Rattle.path_adaptive.specs.Tally.{spent}
-use Rattle.path_adaptive.specs.Walk.{shownOf, walkFrom}
-use Prim.Native.Nat.{_+_, _-_}
+use Rattle.path_adaptive.specs.Walk.{walkFrom}
+use Rattle.path_adaptive.specs.Plain.{viewAt, tallyOf}
+use Prim.Native.Nat.{ℕ, _+_, _-_}
 use native.Mathlib.Omega.{arith}
 use mathlib.Core.Path.{_≡_, refl, sym, ap, _∙_}
 use Rattle.path_adaptive.proofs.measure_spans.Statement.{statement}
 use Rattle.path_adaptive.proofs.measure_spans.Tie as tie
 
 abbrev Inv-loop : tie.InvT-loop
-Inv-loop view points i e j₀ p₀ s₀ j p s = spent s (walkFrom view p (gather (pointAt points) j (e - j))) ≡ spent s₀ (walkFrom view p₀ (gather (pointAt points) i (e - i)))
+Inv-loop lens points i e n j₀ p₀ k₀ j p k = (s : ℕ) → spent (tallyOf k s) (walkFrom (viewAt lens) p (gather (pointAt points) j (e - j))) ≡ spent (tallyOf k₀ s) (walkFrom (viewAt lens) p₀ (gather (pointAt points) i (e - i)))
 
 abbrev μ-loop : tie.MeasureT-loop
-μ-loop view points i e j₀ p₀ s₀ j p s = e - j
+μ-loop lens points i e n j₀ p₀ k₀ j p k = e - j
 
 loop-holds : tie.Need-loop-holds Inv-loop μ-loop
-loop-holds c = refl
+loop-holds c s = refl
+
+view-at-requires : tie.Need-view-at-requires Inv-loop μ-loop
+view-at-requires c κs = search needs
 
 point-at-requires : tie.Need-point-at-requires Inv-loop μ-loop
 point-at-requires c κs = search needs
@@ -27,8 +31,8 @@ point-at-requires c κs = search needs
 show-requires : tie.Need-show-requires Inv-loop μ-loop
 show-requires c κs = search needs
 
-measure-requires : tie.Need-measure-requires Inv-loop μ-loop
-measure-requires c κs = search needs
+measure-span-requires : tie.Need-measure-span-requires Inv-loop μ-loop
+measure-span-requires c κs = search needs
 
 add-j : tie.Need-add-j Inv-loop μ-loop
 add-j c = omega arith
@@ -37,19 +41,21 @@ loop-less : tie.Need-loop-less Inv-loop μ-loop
 loop-less c = omega arith
 
 loop-again : tie.Need-loop-again Inv-loop μ-loop
-loop-again c =
-    let l = c .before .before .before .before in
-    let a = l .before .before .args in
-    let q = c .before .show .ensures ∙ ap (shownOf (a .view)) (c .before .before .point-at .ensures) in
-    let m = from-more (a .view) (pointAt (a .points .now)) (l .loop .j) (a .e) (l .loop .p) _ (search needs) q in
-    let r = walkFrom (a .view) (c .before .show .result) (gather (pointAt (a .points .now)) (l .loop .j + 1) (a .e - (l .loop .j + 1))) in
-    ap (λ (x : Tally). spent x r) (c .measure .ensures) ∙ spent-join (l .loop .s) _ r _ m ∙ l .loop .inv
+loop-again c s =
+    let l = c .before .before .before .before .before in
+    let a = c .before .before .before .before .before .before .before .args in
+    let v = viewAt (a .lens .now) in
+    let q = c .before .show .result in
+    let m = from-more v (pointAt (a .points .now)) (l .loop .j) (a .e) (l .loop .p) q (search needs) (shown-are (c .before .before .before .view-at .ensures) (c .before .before .point-at .ensures) (c .before .show .ensures)) in
+    let r = walkFrom v q (gather (pointAt (a .points .now)) (l .loop .j + 1) (a .e - (l .loop .j + 1))) in
+    ap (λ (x : Tally). spent x r) (c .measure-span .ensures s) ∙ spent-join (tallyOf (l .loop .k) s) _ r _ m ∙ l .loop .inv s
 
 returns : tie.Need-returns Inv-loop μ-loop
-returns c =
+returns c s =
     let l = c .before in
-    let a = l .before .before .args in
-    sym (spent-none (l .loop .s)) ∙ ap (spent (l .loop .s)) (sym (from-none (a .view) (pointAt (a .points .now)) (l .loop .j) (a .e) (l .loop .p) (search needs))) ∙ l .loop .inv
+    let a = c .before .before .before .args in
+    let t = tallyOf (l .loop .k) s in
+    sym (spent-none t) ∙ ap (spent t) (sym (from-none (viewAt (a .lens .now)) (pointAt (a .points .now)) (l .loop .j) (a .e) (l .loop .p) (search needs))) ∙ l .loop .inv s
 
 pub measure-spans-spec : {M : Type 1} → statement M
 measure-spans-spec =
@@ -58,9 +64,10 @@ measure-spans-spec =
     Inv-loop
     μ-loop
     loop-holds
+    view-at-requires
     point-at-requires
     show-requires
-    measure-requires
+    measure-span-requires
     add-j
     loop-less
     loop-again

@@ -1,13 +1,15 @@
 -- `measure_stroke` meets its contract.
 use Rattle.path_adaptive.specs.declared.Tally.{Tally}
 use Rattle.path.specs.Strokes.{pointAt, gather}
-use Rattle.path_adaptive.proofs.Walks.{stroke-none, stroke-some}
-use Rattle.path_adaptive.proofs.Tallies.{spent-one, stroke-empty, stroke-first}
-use Rattle.path_adaptive.specs.Tally.{spent, pointed, begun}
-use Rattle.path_adaptive.specs.Walk.{one, walkFrom}
+use Rattle.path_adaptive.proofs.Walks.{shown-are, stroke-none, stroke-some}
+use Rattle.path_adaptive.proofs.Tallies.{spent-stop, stroke-empty, stroke-goes, first-less}
+use Rattle.path_adaptive.proofs.Meets.{left-number}
+use Rattle.path_adaptive.specs.Tally.{spent, pointed}
+use Rattle.path_adaptive.specs.Walk.{shownOf, walkFrom}
+use Rattle.path_adaptive.specs.Plain.{viewAt}
 use Prim.Native.Nat.{_+_, _-_}
 use native.Mathlib.Omega.{arith}
-use mathlib.Core.Path.{refl, ap, _∙_}
+use mathlib.Core.Path.{refl, sym, ap, _∙_}
 use borrow.Author.Needs.{needs}
 use Rattle.path_adaptive.proofs.measure_stroke.Statement.{statement}
 use Rattle.path_adaptive.proofs.measure_stroke.Tie as tie
@@ -15,10 +17,10 @@ use Rattle.path_adaptive.proofs.measure_stroke.Tie as tie
 returns : tie.Need-returns
 returns c =
     let a = c .before .before .args in
-    stroke-empty (a .t) _ (stroke-none (a .view) (pointAt (a .points .now)) (a .a) (a .e) (c .if1 .taken))
+    stroke-empty (a .t) _ (stroke-none (viewAt (a .lens .now)) (pointAt (a .points .now)) (a .a) (a .e) (c .if1 .taken))
 
-point-at-requires : tie.Need-point-at-requires
-point-at-requires c κs = search needs
+add-i : tie.Need-add-i
+add-i c = search needs
 
 begin-requires : tie.Need-begin-requires
 begin-requires c κs = search needs
@@ -26,33 +28,65 @@ begin-requires c κs = search needs
 spend-requires : tie.Need-spend-requires
 spend-requires c κs = search needs
 
-add-measure-spans : tie.Need-add-measure-spans
-add-measure-spans c = search needs
+enum-known-s : tie.Need-enum-known-s
+enum-known-s c = search needs
+
+view-at-requires : tie.Need-view-at-requires
+view-at-requires c κs = search needs
+
+point-at-requires : tie.Need-point-at-requires
+point-at-requires c κs = search needs
 
 show-requires : tie.Need-show-requires
 show-requires c κs = search needs
 
+add-measure-spans : tie.Need-add-measure-spans
+add-measure-spans c =
+    omega (arith, c .before .before .before .before .before .before .before .before .before .before .pre, first-less (c .before .before .before .before .before .before .before .before .before .before .args .t) _ (c .before .point-at .result) (c .before .before .before .before .before .before .spend .ensures ∙ ap pointed (c .before .before .before .before .before .before .before .begin .ensures)) (c .before .before .before .before .s .given .1))
+
 measure-spans-requires : tie.Need-measure-spans-requires
 measure-spans-requires c κs = search needs
 
+tally-of-requires : tie.Need-tally-of-requires
+tally-of-requires c κs = search needs
+
+enum-known-s-2 : tie.Need-enum-known-s-2
+enum-known-s-2 c = search needs
+
 returns-2 : tie.Need-returns-2
 returns-2 c =
+    let a = c .before .before .before .before .before .before .before .before .before .before .before .before .args in
+    let v = viewAt (a .lens .now) in
+    let p = c .before .before .show .result in
+    let w = stroke-some v (pointAt (a .points .now)) (a .a) (a .e) _ p (omega (arith, c .before .before .before .before .before .before .before .before .before .before .if1 .left)) refl (shown-are (c .before .before .before .before .view-at .ensures) (c .before .before .before .point-at .ensures) (c .before .before .show .ensures)) in
+    let r = walkFrom v p (gather (pointAt (a .points .now)) (a .a + 1) (a .e - (a .a + 1))) in
+    let g = c .before .before .before .before .before .before .s .given in
+    c .tally-of .ensures ∙ c .before .measure-spans .ensures _ ∙ ap (λ (x : Tally). spent x r) (left-number _ _ ∙ sym (g .1)) ∙ stroke-goes (a .t) _ _ r _ w (c .before .before .before .before .before .before .before .before .spend .ensures ∙ ap pointed (c .before .before .before .before .before .before .before .before .before .begin .ensures))
+
+returns-3 : tie.Need-returns-3
+returns-3 c =
     let a = c .before .before .before .before .before .before .before .args in
-    let v = c .before .before .before .before .point-at .result in
-    let w = stroke-some (a .view) (pointAt (a .points .now)) (a .a) (a .e) v _ (omega arith) (c .before .before .before .before .point-at .ensures) (c .before .show .ensures) in
-    let r = walkFrom (a .view) (c .before .show .result) (gather (pointAt (a .points .now)) (a .a + 1) (a .e - (a .a + 1))) in
-    let s = c .before .before .spend .ensures ∙ ap pointed (c .before .before .before .begin .ensures) ∙ spent-one (begun (a .t)) v (one v) refl in
-    c .measure-spans .ensures ∙ ap (λ (x : Tally). spent x r) s ∙ stroke-first (a .t) v r _ w
+    let v = viewAt (a .lens .now) in
+    let at = pointAt (a .points .now) in
+    let w = stroke-some v at (a .a) (a .e) _ _ (omega (arith, c .before .before .before .before .before .if1 .left)) refl refl in
+    let r = walkFrom v (shownOf v (at (a .a))) (gather at (a .a + 1) (a .e - (a .a + 1))) in
+    spent-stop _ r refl ∙ ap (λ (x : Tally). spent x r) (sym (c .before .s2 .given .1)) ∙ stroke-goes (a .t) _ _ r _ w (c .before .before .before .spend .ensures ∙ ap pointed (c .before .before .before .before .begin .ensures))
 
 pub measure-stroke-spec : {M : Type 1} → statement M
 measure-stroke-spec =
     tie.close
     (tie.spec
     returns
-    point-at-requires
+    add-i
     begin-requires
     spend-requires
-    add-measure-spans
+    enum-known-s
+    view-at-requires
+    point-at-requires
     show-requires
+    add-measure-spans
     measure-spans-requires
-    returns-2)
+    tally-of-requires
+    enum-known-s-2
+    returns-2
+    returns-3)

@@ -1,8 +1,10 @@
 -- `write_adapted` meets its contract.
-use Rattle.path.specs.Laid.{pen}
+use Rattle.path.proofs.Pushes.{ink-place}
+use Rattle.path.specs.Laid.{putPoints, pen}
 use Rattle.path.specs.Strokes.{pointAt}
-use Rattle.path_adaptive.proofs.Walks.{join-both, both-ink, one-ink, stroke-some}
+use Rattle.path_adaptive.proofs.Walks.{shown-are, join-both, both-ink, stroke-some}
 use Rattle.path_adaptive.specs.Walk.{one}
+use Rattle.path_adaptive.specs.Plain.{viewAt}
 use native.Mathlib.Omega.{arith}
 use mathlib.Core.Path.{refl}
 use borrow.Author.Needs.{needs}
@@ -12,47 +14,47 @@ use Rattle.path_adaptive.proofs.write_adapted.Tie as tie
 point-at-requires : tie.Need-point-at-requires
 point-at-requires c κs = search needs
 
-put-point-requires : tie.Need-put-point-requires
-put-point-requires c κs = search needs
+add-point-requires : tie.Need-add-point-requires
+add-point-requires c κs =
+    let a = c .before .before .before .before .args in
+    let w = stroke-some (viewAt (a .lens .now)) (pointAt (a .points .now)) (a .a) (a .e) _ _ (c .before .before .before .before .pre .0) refl refl in
+    omega (arith, c .before .before .before .before .pre .2, join-both (one _) _ _ w (c .before .before .before .before .pre .1) .length-is)
 
 add-write-spans : tie.Need-add-write-spans
 add-write-spans c = search needs
 
-add-write-spans-2 : tie.Need-add-write-spans-2
-add-write-spans-2 c = search needs
+view-at-requires : tie.Need-view-at-requires
+view-at-requires c κs = search needs
 
 show-requires : tie.Need-show-requires
 show-requires c κs = search needs
 
 write-spans-requires : tie.Need-write-spans-requires
 write-spans-requires c κs =
-    let a = c .before .before .before .before .before .before .before .before .before .args in
-    let v = c .before .before .before .before .before .before .point-at .result in
-    let w = stroke-some (a .view) (pointAt (a .points .now)) (a .a) (a .e) v _ (c .before .before .before .before .before .before .before .before .before .pre .0) (c .before .before .before .before .before .before .point-at .ensures) (c .before .show .ensures) in
-    let b = join-both (one v) _ _ w (c .before .before .before .before .before .before .before .before .before .pre .1) in
-    (b .calm-after, omega (arith, c .before .before .before .before .before .before .before .before .before .pre .2, b .length-is), omega (arith, c .before .before .before .before .before .before .before .before .before .pre .3, b .halvings-are))
+    let a = c .before .before .before .before .before .before .before .before .before .before .args in
+    let v = c .before .before .before .before .before .before .before .point-at .result in
+    let w = stroke-some (viewAt (a .lens .now)) (pointAt (a .points .now)) (a .a) (a .e) v _ (c .before .before .before .before .before .before .before .before .before .before .pre .0) (c .before .before .before .before .before .before .before .point-at .ensures) (shown-are (c .before .before .view-at .ensures) refl (c .before .show .ensures)) in
+    let b = join-both (one v) _ _ w (c .before .before .before .before .before .before .before .before .before .before .pre .1) in
+    (b .calm-after, omega (arith, c .before .before .before .before .before .before .before .before .before .before .pre .2, b .length-is, ink-place putPoints (pen (a .out .now) (a .o)) (one v .points) (c .before .before .before .before .before .add-point .ensures)))
 
 same-length : tie.Need-same-length
 same-length c = search needs
 
 returns : tie.Need-returns
 returns c =
-    let a = c .before .before .before .before .before .before .before .before .before .before .before .before .args in
-    let v = c .before .before .before .before .before .before .before .before .before .point-at .result in
-    let w = stroke-some (a .view) (pointAt (a .points .now)) (a .a) (a .e) v _ (c .before .before .before .before .before .before .before .before .before .before .before .before .pre .0) (c .before .before .before .before .before .before .before .before .before .point-at .ensures) (c .before .before .before .before .show .ensures) in
-    let b = join-both (one v) _ _ w (c .before .before .before .before .before .before .before .before .before .before .before .before .pre .1) in (
-      both-ink b (pen (a .out .now) (a .k .points)) _ _ (one-ink v (one v) refl (a .out .now) _ (a .k .points) (c .before .before .before .before .before .before .before .put-point .ensures)) (c .before .before .write-spans .ensures .0),
-      omega (arith, b .halvings-are, c .before .before .write-spans .ensures .1),
-    )
+    let a = c .before .before .before .before .before .before .before .before .before .before .before .before .before .args in
+    let v = c .before .before .before .before .before .before .before .before .before .before .point-at .result in
+    let w = stroke-some (viewAt (a .lens .now)) (pointAt (a .points .now)) (a .a) (a .e) v _ (c .before .before .before .before .before .before .before .before .before .before .before .before .before .pre .0) (c .before .before .before .before .before .before .before .before .before .before .point-at .ensures) (shown-are (c .before .before .before .before .before .view-at .ensures) refl (c .before .before .before .before .show .ensures)) in
+    both-ink (join-both (one v) _ _ w (c .before .before .before .before .before .before .before .before .before .before .before .before .before .pre .1)) (pen (a .out .now) (a .o)) _ _ (c .before .before .before .before .before .before .before .before .add-point .ensures) (c .before .before .write-spans .ensures)
 
 pub write-adapted-spec : {M : Type 1} → statement M
 write-adapted-spec =
     tie.close
     (tie.spec
     point-at-requires
-    put-point-requires
+    add-point-requires
     add-write-spans
-    add-write-spans-2
+    view-at-requires
     show-requires
     write-spans-requires
     same-length

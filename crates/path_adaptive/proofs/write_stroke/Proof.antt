@@ -3,7 +3,8 @@ use Rattle.path.proofs.Pushes.{push-none, push-pen}
 use Rattle.path.specs.Laid.{putPoints, out}
 use Rattle.path.specs.Strokes.{pointAt}
 use Rattle.path_adaptive.proofs.Walks.{join-both, stroke-none, stroke-some}
-use Rattle.path_adaptive.specs.Walk.{shownOf, Walk, one, placeOf}
+use Rattle.path_adaptive.specs.Walk.{shownOf, Walk, one}
+use Rattle.path_adaptive.specs.Plain.{viewAt}
 use lib.ListN.{length}
 use native.Mathlib.Omega.{arith}
 use mathlib.Core.Path.{refl, sym, ap}
@@ -14,8 +15,8 @@ use Rattle.path_adaptive.proofs.write_stroke.Tie as tie
 returns : tie.Need-returns
 returns c =
     let a = c .before .before .before .before .args in
-    let z = stroke-none (a .view) (pointAt (a .points .now)) (a .a) (a .e) (c .if1 .taken) in
-    (sym (push-none putPoints _ _ (ap (λ (x : Walk). length (x .points)) z)), omega (arith, ap (λ (x : Walk). x .halvings) z))
+    let z = stroke-none (viewAt (a .lens .now)) (pointAt (a .points .now)) (a .a) (a .e) (c .if1 .taken) in
+    sym (push-none putPoints _ _ (ap (λ (x : Walk). length (x .points)) z))
 
 cast-put-number : tie.Need-cast-put-number
 cast-put-number c = search needs
@@ -26,8 +27,8 @@ put-number-requires c κs = search needs
 write-adapted-requires : tie.Need-write-adapted-requires
 write-adapted-requires c κs = search needs
 
-add-t19 : tie.Need-add-t19
-add-t19 c = search needs
+add-t18 : tie.Need-add-t18
+add-t18 c = search needs
 
 same-length : tie.Need-same-length
 same-length c = search needs
@@ -39,12 +40,10 @@ returns-2 : tie.Need-returns-2
 returns-2 c =
     let a = c .before .before .before .before .before .before .before .before .before .before .before .before .args in
     let at = pointAt (a .points .now) in
-    let w = stroke-some (a .view) at (a .a) (a .e) (at (a .a)) (shownOf (a .view) (at (a .a))) (omega arith) refl refl in
-    let b = join-both (one (at (a .a))) _ _ w (c .before .before .before .before .before .before .before .before .before .before .before .before .pre .0) in (
-      rw (c .before .before .before .before .before .before .put-number .ensures)
-          (push-pen putPoints (out (a .out-points .now) (a .out-starts .now) (placeOf (a .w))) _ (omega (arith, b .length-is)) _ _ (c .before .before .write-adapted .ensures .0)),
-      c .before .before .write-adapted .ensures .1,
-    )
+    let w = stroke-some (viewAt (a .lens .now)) at (a .a) (a .e) (at (a .a)) (shownOf (viewAt (a .lens .now)) (at (a .a))) (omega arith) refl refl in
+    let b = join-both (one (at (a .a))) _ _ w (c .before .before .before .before .before .before .before .before .before .before .before .before .pre .0) in
+    rw (c .before .before .before .before .before .before .put-number .ensures)
+    (push-pen putPoints (out (a .out-points .now) (a .out-starts .now) (a .w)) _ (omega (arith, b .length-is)) _ _ (c .before .before .write-adapted .ensures))
 
 pub write-stroke-spec : {M : Type 1} → statement M
 write-stroke-spec =
@@ -54,7 +53,7 @@ write-stroke-spec =
     cast-put-number
     put-number-requires
     write-adapted-requires
-    add-t19
+    add-t18
     same-length
     same-length-2
     returns-2)
