@@ -1,6 +1,6 @@
 -- `section_agrees` is safe and ends.
-use native.Mathlib.Omega.{arith}
 use lib.ListN.{length-take}
+use native.Mathlib.Omega.{arith}
 use borrow.Author.Needs.{needs}
 use Rattle.replay_meshes.proofs.section_agrees.Statement.{statement}
 use Rattle.replay_meshes.proofs.section_agrees.Tie as tie
@@ -11,56 +11,32 @@ size-requires c κs = search needs
 size-requires-2 : tie.Need-size-requires-2
 size-requires-2 c κs = search needs
 
-slice-aggregate-fill-real : tie.Need-slice-aggregate-fill-real
-slice-aggregate-fill-real c = search needs
+reals-requires : tie.Need-reals-requires
+reals-requires c κs = search needs
 
-fill-real-requires : tie.Need-fill-real-requires
-fill-real-requires c κs = search needs
+past-requires : tie.Need-past-requires
+past-requires c κs = search needs
 
-add-fill : tie.Need-add-fill
-add-fill c = search needs
+numbers-requires : tie.Need-numbers-requires
+numbers-requires c κs = search needs
 
-slice-aggregate-fill : tie.Need-slice-aggregate-fill
-slice-aggregate-fill c = search needs
-
-fill-requires : tie.Need-fill-requires
-fill-requires c κs = search needs
+past-requires-2 : tie.Need-past-requires-2
+past-requires-2 c κs = search needs
 
 array-share-prefix-vertices : tie.Need-array-share-prefix-vertices
 array-share-prefix-vertices c = search needs
 
-slice-aggregate-sectioned : tie.Need-slice-aggregate-sectioned
-slice-aggregate-sectioned c = simp length-take (omega (arith, c .before .before .before .before .before .before .before .before .size .ensures, c .before .before .before .before .before .fill-real .kept .1 .1 .0))
+slice-aggregate-section-leaves : tie.Need-slice-aggregate-section-leaves
+slice-aggregate-section-leaves c = simp length-take (omega (arith, c .before .before .before .before .before .before .size .ensures .1, c .before .before .before .before .reals .ensures .1))
 
 array-share-prefix-indices : tie.Need-array-share-prefix-indices
 array-share-prefix-indices c = search needs
 
-slice-aggregate-sectioned-2 : tie.Need-slice-aggregate-sectioned-2
-slice-aggregate-sectioned-2 c = simp length-take (omega (arith, c .before .before .before .before .before .before .before .before .size2 .ensures, c .before .before .before .fill .kept .1 .1 .0))
+slice-aggregate-section-leaves-2 : tie.Need-slice-aggregate-section-leaves-2
+slice-aggregate-section-leaves-2 c = simp length-take (omega (arith, c .before .before .before .before .before .before .size2 .ensures .1, c .before .before .before .numbers .ensures .1))
 
-slice-aggregate-sectioned-3 : tie.Need-slice-aggregate-sectioned-3
-slice-aggregate-sectioned-3 c = search needs
-
-slice-aggregate-sectioned-4 : tie.Need-slice-aggregate-sectioned-4
-slice-aggregate-sectioned-4 c = search needs
-
-sectioned-requires : tie.Need-sectioned-requires
-sectioned-requires c κs = search needs
-
-add-points-left : tie.Need-add-points-left
-add-points-left c = search needs
-
-add-points-left-2 : tie.Need-add-points-left-2
-add-points-left-2 c = search needs
-
-slice-aggregate-points-left : tie.Need-slice-aggregate-points-left
-slice-aggregate-points-left c = search needs
-
-slice-aggregate-points-left-2 : tie.Need-slice-aggregate-points-left-2
-slice-aggregate-points-left-2 c = search needs
-
-points-left-requires : tie.Need-points-left-requires
-points-left-requires c κs = search needs
+section-leaves-requires : tie.Need-section-leaves-requires
+section-leaves-requires c κs = search needs
 
 returns : tie.Need-returns
 returns c = search needs
@@ -71,21 +47,13 @@ section-agrees-spec =
     (tie.spec
     size-requires
     size-requires-2
-    slice-aggregate-fill-real
-    fill-real-requires
-    add-fill
-    slice-aggregate-fill
-    fill-requires
+    reals-requires
+    past-requires
+    numbers-requires
+    past-requires-2
     array-share-prefix-vertices
-    slice-aggregate-sectioned
+    slice-aggregate-section-leaves
     array-share-prefix-indices
-    slice-aggregate-sectioned-2
-    slice-aggregate-sectioned-3
-    slice-aggregate-sectioned-4
-    sectioned-requires
-    add-points-left
-    add-points-left-2
-    slice-aggregate-points-left
-    slice-aggregate-points-left-2
-    points-left-requires
+    slice-aggregate-section-leaves-2
+    section-leaves-requires
     returns)

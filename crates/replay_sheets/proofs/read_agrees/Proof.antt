@@ -1,6 +1,6 @@
 -- `read_agrees` is safe and ends.
-use native.Mathlib.Omega.{arith}
 use lib.ListN.{length-take}
+use native.Mathlib.Omega.{arith}
 use borrow.Author.Needs.{needs}
 use Rattle.replay_sheets.proofs.read_agrees.Statement.{statement}
 use Rattle.replay_sheets.proofs.read_agrees.Tie as tie
@@ -8,38 +8,20 @@ use Rattle.replay_sheets.proofs.read_agrees.Tie as tie
 size-requires : tie.Need-size-requires
 size-requires c κs = search needs
 
-slice-aggregate-fill-bytes : tie.Need-slice-aggregate-fill-bytes
-slice-aggregate-fill-bytes c = search needs
+bytes-requires : tie.Need-bytes-requires
+bytes-requires c κs = search needs
 
-fill-bytes-requires : tie.Need-fill-bytes-requires
-fill-bytes-requires c κs = search needs
+past-requires : tie.Need-past-requires
+past-requires c κs = search needs
 
-array-share-prefix-bytes : tie.Need-array-share-prefix-bytes
-array-share-prefix-bytes c = search needs
+array-share-prefix-sheet : tie.Need-array-share-prefix-sheet
+array-share-prefix-sheet c = search needs
 
-slice-aggregate-read : tie.Need-slice-aggregate-read
-slice-aggregate-read c = simp length-take (omega (arith, c .before .before .before .before .size .ensures, c .before .before .fill-bytes .kept .1 .1 .0))
+slice-aggregate-read-leaves : tie.Need-slice-aggregate-read-leaves
+slice-aggregate-read-leaves c = simp length-take (omega (arith, c .before .before .before .size .ensures .1, c .before .before .bytes .ensures .1))
 
-slice-aggregate-read-2 : tie.Need-slice-aggregate-read-2
-slice-aggregate-read-2 c = search needs
-
-slice-aggregate-read-3 : tie.Need-slice-aggregate-read-3
-slice-aggregate-read-3 c = search needs
-
-read-requires : tie.Need-read-requires
-read-requires c κs = search needs
-
-add-read-left : tie.Need-add-read-left
-add-read-left c = search needs
-
-slice-aggregate-read-left : tie.Need-slice-aggregate-read-left
-slice-aggregate-read-left c = search needs
-
-slice-aggregate-read-left-2 : tie.Need-slice-aggregate-read-left-2
-slice-aggregate-read-left-2 c = search needs
-
-read-left-requires : tie.Need-read-left-requires
-read-left-requires c κs = search needs
+read-leaves-requires : tie.Need-read-leaves-requires
+read-leaves-requires c κs = search needs
 
 returns : tie.Need-returns
 returns c = search needs
@@ -49,15 +31,9 @@ read-agrees-spec =
     tie.close
     (tie.spec
     size-requires
-    slice-aggregate-fill-bytes
-    fill-bytes-requires
-    array-share-prefix-bytes
-    slice-aggregate-read
-    slice-aggregate-read-2
-    slice-aggregate-read-3
-    read-requires
-    add-read-left
-    slice-aggregate-read-left
-    slice-aggregate-read-left-2
-    read-left-requires
+    bytes-requires
+    past-requires
+    array-share-prefix-sheet
+    slice-aggregate-read-leaves
+    read-leaves-requires
     returns)

@@ -1,16 +1,16 @@
--- `take_bytes` is safe and ends. Nothing has to hold from turn to turn. Assumes nothing.
-use Prim.Native.Nat.{_-_}
-use native.Mathlib.Omega.{arith}
+-- `take_bytes` is safe and ends.
 use borrow.Author.Needs.{needs}
 use lib.ListN.{length}
+use Prim.Native.Nat.{_-_}
+use native.Mathlib.Omega.{arith}
 use Rattle.replay_strokes.proofs.take_bytes.Statement.{statement}
 use Rattle.replay_strokes.proofs.take_bytes.Tie as tie
 
 abbrev Inv-loop : tie.InvT-loop
-Inv-loop bytes page₀ rows₀ differ₀ i₀ page rows differ i = Unit {0}
+Inv-loop bytes page₀ counts₀ i₀ page counts i = Unit {0}
 
 abbrev μ-loop : tie.MeasureT-loop
-μ-loop bytes page₀ rows₀ differ₀ i₀ page rows differ i = length bytes - i
+μ-loop bytes page₀ counts₀ i₀ page counts i = length bytes - i
 
 loop-holds : tie.Need-loop-holds Inv-loop μ-loop
 loop-holds c = tt
@@ -20,6 +20,9 @@ shared-slice-read-take-byte c = omega arith
 
 take-byte-requires : tie.Need-take-byte-requires Inv-loop μ-loop
 take-byte-requires c κs = search needs
+
+end-row-requires : tie.Need-end-row-requires Inv-loop μ-loop
+end-row-requires c κs = search needs
 
 add-i : tie.Need-add-i Inv-loop μ-loop
 add-i c = omega arith
@@ -42,6 +45,7 @@ take-bytes-spec =
     loop-holds
     shared-slice-read-take-byte
     take-byte-requires
+    end-row-requires
     add-i
     loop-less
     loop-again

@@ -1,0 +1,4 @@
+pub mod Words
+pub mod Lists
+pub mod Answers
+pub mod Rows
