@@ -1,0 +1,174 @@
+//! Calls at the limits and one past them, and where recursion is deepest.
+
+use crate::call::Call;
+use crate::source::{MOST_STROKES, Strokes};
+use crate::strokes::{View, chop_adaptive_of, chop_of, reader_of, simplify_of, splice_of};
+use crate::{meshes, sheets};
+use ramikohy::Sight;
+
+/// A call, what is large about it, and the status that it must have.
+pub struct Large {
+    pub what: &'static str,
+    pub call: Call,
+    pub status: u32,
+}
+
+/// The limits of the rules.
+const MOST_POINTS: usize = 1_048_576;
+const MOST_TO_SIMPLIFY: usize = 4_096;
+const MOST_FACES: usize = 65_536;
+
+fn large(what: &'static str, call: Call, status: u32) -> Large {
+    Large { what, call, status }
+}
+
+/// Every one of them.
+pub fn all() -> Vec<Large> {
+    [cuts(), adaptive(), simplified(), numbered(), welds(), sections(), drawings(), sheets()]
+        .into_iter()
+        .flatten()
+        .collect()
+}
+
+/// Points on the x axis as one stroke.
+fn on_x(xs: impl IntoIterator<Item = f64>) -> Strokes<f64> {
+    Strokes { points: xs.into_iter().flat_map(|x| [x, 0.0, 0.0]).collect(), starts: vec![0] }
+}
+
+/// As many strokes of two points on the x axis.
+fn pieces(count: usize) -> Strokes<f64> {
+    let starts = (0..count as u32).map(|i| 2 * i).collect();
+    Strokes { starts, ..on_x((0..count).flat_map(|i| [i as f64, i as f64 + 1.0])) }
+}
+
+fn cuts() -> Vec<Large> {
+    let line = |points: usize| chop_of(&on_x([0.0, points as f64 - 1.0]), 1.0, [MOST_POINTS + 9, 2]);
+    let strokes = |count: usize| chop_of(&pieces(count), 1.0, [2 * count, count]);
+    vec![
+        large("1,048,576 points written", line(MOST_POINTS), 0),
+        large("one more", line(MOST_POINTS + 1), 6),
+        large("196,608 strokes", strokes(MOST_STROKES), 0),
+        large("one more", strokes(MOST_STROKES + 1), 2),
+    ]
+}
+
+/// The identity's view of a screen without width: of a stroke across it, the one span that still lies across is halved.
+fn across(step: f64) -> View {
+    let mut matrix = [0.0; 16];
+    (matrix[0], matrix[5], matrix[10], matrix[15]) = (1.0, 1.0, 1.0, 1.0);
+    View { matrix, numbers: [0.0, 1.0, step, 1e-300] }
+}
+
+fn adaptive() -> Vec<Large> {
+    let halved = |step: f64| chop_adaptive_of(&on_x([-1.0, 2.0]), across(step), [100, 1]);
+    let wide = |step: f64| {
+        let mut view = across(step);
+        view.numbers[0] = 1048576.0;
+        chop_adaptive_of(&on_x([0.0, 262144.0]), view, [MOST_POINTS + 9, 1])
+    };
+    let deepest = 3.0 / 2f64.powi(64);
+    vec![
+        large("64 halvings deep", halved(deepest * 1.01), 0),
+        large("one deeper", halved(deepest * 0.99), 8),
+        large("524,289 points written", wide(0.6), 0),
+        large("1,048,577 points", wide(0.3), 6),
+    ]
+}
+
+/// From side to side of a place and ever nearer: the farthest from the line to the last is always the next.
+fn swinging(count: usize) -> Vec<f64> {
+    (0..count as i32).map(|i| 1048576.0 * 0.915f64.powi(i) * if i % 2 == 0 { 1.0 } else { -1.0 }).collect()
+}
+
+fn simplified() -> Vec<Large> {
+    let of = |xs: Vec<f64>| simplify_of(&on_x(xs), 0.0, 0);
+    let back = swinging(MOST_TO_SIMPLIFY).into_iter().rev().collect();
+    let even = (0..MOST_TO_SIMPLIFY).map(|i| ((i * i) % 97) as f64).collect();
+    vec![
+        large("4,096 points, the farthest always the first", of(swinging(MOST_TO_SIMPLIFY)), 0),
+        large("4,096 points, the farthest always the last", of(back), 0),
+        large("4,096 points without an order", of(even), 0),
+        large("one more", of(swinging(MOST_TO_SIMPLIFY + 1)), 2),
+    ]
+}
+
+/// As many strokes of two vertex numbers, each from where another ends.
+fn chain(count: usize) -> Strokes<u32> {
+    let points = (0..count as u32).flat_map(|i| [i / 2, i / 2 + 1 + i % 5]).collect();
+    Strokes { points, starts: (0..count as u32).map(|i| 2 * i).collect() }
+}
+
+fn numbered() -> Vec<Large> {
+    vec![
+        large("196,608 strokes", splice_of(&chain(MOST_STROKES), 0), 0),
+        large("one more", splice_of(&chain(MOST_STROKES + 1), 0), 2),
+        large("196,608 strokes", reader_of(&chain(MOST_STROKES), MOST_STROKES - 1), 0),
+    ]
+}
+
+/// A wavy sheet of 256 by 128 squares, two faces each, and with one face more.
+fn sheet_of_faces(faces: usize) -> (Vec<f64>, Vec<u32>) {
+    let wave = |i: u32, j: u32| (i as f64 * 0.3).sin() + (j as f64 * 0.2).cos();
+    let vertices = (0..257).flat_map(|i| (0..129).flat_map(move |j| [i as f64, j as f64, wave(i, j)])).collect();
+    let at = |i: u32, j: u32| i * 129 + j;
+    let square = |i: u32, j: u32| {
+        let [a, b, c, d] = [at(i, j), at(i + 1, j), at(i + 1, j + 1), at(i, j + 1)];
+        [a, b, c, a, c, d]
+    };
+    let all = (0..256).flat_map(|i| (0..128).flat_map(move |j| square(i, j)));
+    (vertices, all.cycle().take(3 * faces).collect())
+}
+
+/// The corners of as many faces.
+fn corners(faces: usize) -> Vec<f64> {
+    let (vertices, indices) = sheet_of_faces(faces);
+    indices.iter().flat_map(|&v| vertices[v as usize * 3..][..3].to_vec()).collect()
+}
+
+fn welds() -> Vec<Large> {
+    vec![
+        large("65,536 faces", meshes::weld_of(&corners(MOST_FACES), 0), 0),
+        large("one more", meshes::weld_of(&corners(MOST_FACES + 1), 0), 2),
+    ]
+}
+
+fn sections() -> Vec<Large> {
+    let of = |faces: usize| {
+        let (vertices, indices) = sheet_of_faces(faces);
+        meshes::section_of(&vertices, &indices, [[100.3, 60.1, 0.0], [0.3, 0.4, 0.8]], 1e-9, 0)
+    };
+    vec![large("65,536 faces", of(MOST_FACES), 0), large("one more", of(MOST_FACES + 1), 2)]
+}
+
+fn drawings() -> Vec<Large> {
+    let of = |faces: usize, mode: u32| {
+        let (vertices, indices) = sheet_of_faces(faces);
+        let flips: Vec<u32> = (0..faces as u32).collect();
+        let sight = Sight { mode, cos_theta: 0.9, eye: [-40.0, -50.0, 9.0], tolerance: 1e-9 };
+        meshes::draw_of(&vertices, &indices, &flips[..faces / 2 * 2], sight, 0)
+    };
+    vec![
+        large("65,536 faces, triangles", of(MOST_FACES, 1), 0),
+        large("65,536 faces, polygonal", of(MOST_FACES, 2), 0),
+        large("65,536 faces, silhouette", of(MOST_FACES, 3), 0),
+        large("one more", of(MOST_FACES + 1, 3), 2),
+    ]
+}
+
+fn sheets() -> Vec<Large> {
+    let most = Strokes {
+        points: (0..MOST_POINTS as u32).map(|i| i % MOST_STROKES as u32).collect(),
+        starts: (0..MOST_STROKES as u32).map(|i| 5 * i).collect(),
+    };
+    let vertices = MOST_STROKES as u32;
+    let mut bytes = sheets::bytes_of(&most, 3, vertices);
+    let written = sheets::write_sheet_of(&most, 3, vertices, bytes.len());
+    let read = sheets::read_sheet_of(&bytes, [MOST_POINTS, MOST_STROKES]);
+    bytes[4] += 1;
+    vec![
+        large("1,048,576 points, 196,608 strokes", written, 0),
+        large("one vertex more", sheets::write_sheet_of(&most, 3, vertices + 1, bytes.len()), 2),
+        large("1,048,576 points, 196,608 strokes", read, 0),
+        large("one vertex more", sheets::read_sheet_of(&bytes, [MOST_POINTS, MOST_STROKES]), 9),
+    ]
+}
