@@ -12,17 +12,19 @@ use refusal::Refusal;
 use refusal::Verdict;
 use vector::Vector;
 use vector::number::root_above;
-use vector::number::root_or_nan;
+use vector::number::root_exceeds;
 ghost use mathlib.Core.Path.{_≡_};
+ghost use mathlib.Core.Bool.{true, false};
 ghost use Prim.Native.Nat.{_+_, _-_, _/_, _≤_, _<_};
 ghost use lib.ListN.{length};
 ghost use lib.Dec.{leb};
+ghost use lib.Ieee.{binary64, div, eq, lt};
 ghost use Rattle.refusal.specs.Limits.{mostPoints, mostToSimplify};
 ghost use Rattle.path.specs.Strokes.{pointAt};
 ghost use Rattle.path.specs.Laid.{putPoints, pen, inked, out, push, pushAll, joined};
 ghost use Rattle.path.specs.Left.{left};
 ghost use Rattle.path_simplify.specs.Simplify.{fartherOf, farthest, splitsAt, thin, thinned, simplified, distances, simplifiedOf, placeOf};
-ghost use Rattle.vector.specs.Lengths.{segmentDistanceOf};
+ghost use Rattle.vector.specs.Lengths.{zero64, one64, segmentDistanceOf};
 ghost use Rattle.path_simplify.specs.Squares.{segmentSquareOf, farOf};
 ghost use Rattle.path_simplify.specs.Call.{said, shortOf, roomFor, thresholdGood, simplifyVerdict, simplifyLeft};
 
@@ -61,8 +63,8 @@ pub struct Best {
     pub square: f64,
 }
 
-// The square of the distance of p from the segment from v to w: segment_distance before its root.
-fn segment_square(p: Vector, v: Vector, w: Vector) -> f64
+// The square of the distance of p from the segment from v to w: segment_distance before its root, as the source tests it.
+fn clamped_square(p: Vector, v: Vector, w: Vector) -> f64
     ensures { λ r. ⌜ r ≡ segmentSquareOf p v w ⌝ }
 {
     let l2 = v.distance_squared(w);
@@ -77,6 +79,30 @@ fn segment_square(p: Vector, v: Vector, w: Vector) -> f64
         return p.distance_squared(w);
     }
     v.add(w.sub(v).mul_scalar(t)).distance_squared(p)
+}
+
+// Whether a point that lies d along a span of squared length l2 surely lies between its ends: no quotient is needed to tell.
+fn inside(d: f64, l2: f64) -> bool
+    ensures { λ r. ⌜ (r ≡ true → (eq l2 zero64 ≡ false) × (lt (div binary64 d l2) zero64 ≡ false) × (lt one64 (div binary64 d l2) ≡ false)) ⌝ }
+{
+    if d > 0.0 {
+        if l2 > 0.0 {
+            return !(d > l2);
+        }
+    }
+    false
+}
+
+// The same, with the tests before the division, which would keep them waiting.
+fn segment_square(p: Vector, v: Vector, w: Vector) -> f64
+    ensures { λ r. ⌜ r ≡ segmentSquareOf p v w ⌝ }
+{
+    let l2 = v.distance_squared(w);
+    let d = p.sub(v).dot(w.sub(v));
+    if inside(d, l2) {
+        return v.add(w.sub(v).mul_scalar(d / l2)).distance_squared(p);
+    }
+    clamped_square(p, v, w)
 }
 
 // The farther of two, the first where they are level. Squares are compared as their roots would be.
@@ -117,8 +143,7 @@ fn splits(f: Best, lo: usize, threshold: f64) -> bool
     ensures { λ r. ⌜ r ≡ splitsAt (farOf f) lo threshold ⌝ }
 {
     let m = f.at;
-    let distance = root_or_nan(f.square);
-    if distance > threshold {
+    if root_exceeds(f.square, threshold) {
         return lo < m;
     }
     false

@@ -6,7 +6,9 @@ pub mod RootSearch
 pub mod RootNearest
 pub mod RootLaws
 pub mod RootGap
+pub mod RootSquare
 pub mod Order
+pub mod Shares
 pub mod Abs
 pub mod Segments
 pub mod Cases

@@ -5,7 +5,7 @@ ghost use Prim.Native.Nat.{_+_, _*_, _^_, _<_, _≤_};
 ghost use Rattle.vector.specs.Answers.{wholeSaid, rootSaid};
 ghost use Rattle.vector.specs.Floor.{floorOf};
 ghost use mathlib.Core.Bool.{true};
-ghost use lib.Ieee.{lt};
+ghost use lib.Ieee.{binary64, lt, mul};
 ghost use Rattle.vector.specs.Root.{rootOf};
 ghost use Rattle.vector.specs.Lengths.{orNan};
 ghost use Rattle.vector.specs.Steps.{at, Digits, Normal, NearestUnits};
@@ -201,4 +201,29 @@ pub fn root_above(x: f64, y: f64) -> bool
         return true;
     }
     root_or_nan(x) > root_or_nan(y)
+}
+
+// Whether t times t keeps enough digits for its root to be t.
+fn squares_well(t: f64) -> bool
+    ensures { λ r. ⌜ (r ≡ true → orNan (rootOf (mul binary64 t t)) ≡ t) ⌝ }
+{
+    if t > 0.0 {
+        if 1.0 / 0.0 > t {
+            let b = f64::to_bits(t);
+            if 0x21a0_0000_0000_0000 <= b {
+                return b < 0x4b00_0000_0000_0000;
+            }
+        }
+    }
+    false
+}
+
+// Whether the root of x is above t. It is worked out only where x is hardly above t times t.
+pub fn root_exceeds(x: f64, t: f64) -> bool
+    ensures { λ r. ⌜ r ≡ lt t (orNan (rootOf x)) ⌝ }
+{
+    if squares_well(t) {
+        return root_above(x, t * t);
+    }
+    root_or_nan(x) > t
 }

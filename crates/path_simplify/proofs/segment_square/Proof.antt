@@ -1,21 +1,13 @@
--- `segment_square` meets its contract.
-use Rattle.path_simplify.proofs.Squares.{no-segment, before-first, after-last, between}
-use Rattle.vector.specs.Vectors.{subOf, dotOf}
-use mathlib.Core.Path.{_≡_, _∙_}
+-- `segment_square` meets its contract: between the ends no test is left after the division.
 use borrow.Author.Needs.{needs}
+use mathlib.Core.Path.{_≡_}
+use Rattle.vector.specs.Vectors.{subOf, dotOf}
+use Rattle.path_simplify.proofs.Squares.{between}
 use Rattle.path_simplify.proofs.segment_square.Statement.{statement}
 use Rattle.path_simplify.proofs.segment_square.Tie as tie
 
 distance-squared-requires : tie.Need-distance-squared-requires
 distance-squared-requires c κs = search needs
-
-distance-squared-requires-2 : tie.Need-distance-squared-requires-2
-distance-squared-requires-2 c κs = search needs
-
-returns : tie.Need-returns
-returns c =
-    let a = c .before .before .before .args in
-    c .distance-squared2 .ensures ∙ no-segment (a .p) (a .v) (a .w) _ (c .before .before .distance-squared .ensures) (c .before .if1 .taken)
 
 sub-requires : tie.Need-sub-requires
 sub-requires c κs = search needs
@@ -26,23 +18,8 @@ sub-requires-2 c κs = search needs
 dot-requires : tie.Need-dot-requires
 dot-requires c κs = search needs
 
-distance-squared-requires-3 : tie.Need-distance-squared-requires-3
-distance-squared-requires-3 c κs = search needs
-
-returns-2 : tie.Need-returns-2
-returns-2 c =
-    let a = c .before .before .before .before .before .before .before .args in
-    let d : c .before .before .dot .result ≡ dotOf (subOf (a .p) (a .v)) (subOf (a .w) (a .v)) = rw (c .before .before .dot .ensures, c .before .before .before .sub2 .ensures, c .before .before .before .before .sub .ensures) in
-    c .distance-squared3 .ensures ∙ before-first (a .p) (a .v) (a .w) _ (c .before .before .before .before .before .before .distance-squared .ensures) _ d (c .before .before .before .before .before .if1 .left) (c .before .if2 .taken)
-
-distance-squared-requires-4 : tie.Need-distance-squared-requires-4
-distance-squared-requires-4 c κs = search needs
-
-returns-3 : tie.Need-returns-3
-returns-3 c =
-    let a = c .before .before .before .before .before .before .before .before .args in
-    let d : c .before .before .before .dot .result ≡ dotOf (subOf (a .p) (a .v)) (subOf (a .w) (a .v)) = rw (c .before .before .before .dot .ensures, c .before .before .before .before .sub2 .ensures, c .before .before .before .before .before .sub .ensures) in
-    c .distance-squared4 .ensures ∙ after-last (a .p) (a .v) (a .w) _ (c .before .before .before .before .before .before .before .distance-squared .ensures) _ d (c .before .before .before .before .before .before .if1 .left) (c .before .before .if2 .left) (c .before .if3 .taken)
+inside-requires : tie.Need-inside-requires
+inside-requires c κs = search needs
 
 sub-requires-3 : tie.Need-sub-requires-3
 sub-requires-3 c κs = search needs
@@ -53,32 +30,36 @@ mul-scalar-requires c κs = search needs
 add-requires : tie.Need-add-requires
 add-requires c κs = search needs
 
-distance-squared-requires-5 : tie.Need-distance-squared-requires-5
-distance-squared-requires-5 c κs = search needs
+distance-squared-requires-2 : tie.Need-distance-squared-requires-2
+distance-squared-requires-2 c κs = search needs
 
-returns-4 : tie.Need-returns-4
-returns-4 c =
-    let a = c .before .before .before .before .before .before .before .before .before .before .before .args in
+returns : tie.Need-returns
+returns c =
+    let a = c .before .before .before .before .before .before .before .before .before .before .args in
+    let i = c .before .before .before .before .before .inside .ensures (c .before .before .before .before .if1 .taken) in
     let d : c .before .before .before .before .before .before .dot .result ≡ dotOf (subOf (a .p) (a .v)) (subOf (a .w) (a .v)) = rw (c .before .before .before .before .before .before .dot .ensures, c .before .before .before .before .before .before .before .sub2 .ensures, c .before .before .before .before .before .before .before .before .sub .ensures) in
-    rw (c .distance-squared5 .ensures, c .before .add .ensures, c .before .before .mul-scalar .ensures, c .before .before .before .sub3 .ensures)
-    (between (a .p) (a .v) (a .w) _ (c .before .before .before .before .before .before .before .before .before .before .distance-squared .ensures) _ d (c .before .before .before .before .before .before .before .before .before .if1 .left) (c .before .before .before .before .before .if2 .left) (c .before .before .before .before .if3 .left))
+    rw (c .distance-squared2 .ensures, c .before .add .ensures, c .before .before .mul-scalar .ensures, c .before .before .before .sub3 .ensures)
+    (between (a .p) (a .v) (a .w) _ (c .before .before .before .before .before .before .before .before .before .distance-squared .ensures) _ d (i .0) (i .1) (i .2))
+
+clamped-square-requires : tie.Need-clamped-square-requires
+clamped-square-requires c κs = search needs
+
+returns-2 : tie.Need-returns-2
+returns-2 c = search needs
 
 pub segment-square-spec : {M : Type 1} → statement M
 segment-square-spec =
     tie.close
     (tie.spec
     distance-squared-requires
-    distance-squared-requires-2
-    returns
     sub-requires
     sub-requires-2
     dot-requires
-    distance-squared-requires-3
-    returns-2
-    distance-squared-requires-4
-    returns-3
+    inside-requires
     sub-requires-3
     mul-scalar-requires
     add-requires
-    distance-squared-requires-5
-    returns-4)
+    distance-squared-requires-2
+    returns
+    clamped-square-requires
+    returns-2)
