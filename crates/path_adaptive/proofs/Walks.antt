@@ -35,15 +35,14 @@ module _ (view : View) (a b : Shown) where
   walk-half zero m h z f = absurd (z refl)
   walk-half (suc d) m h z f = let k : suc d - 1 ≡ d = omega arith in rw (h, k, f)
 
--- a view and two ends that equal those at hand
-module _ {view x : View} {a b s t : Shown} (e : x ≡ view) (f : s ≡ a) (g : t ≡ b) where
-  pub ends-are : {r y : Bool} → r ≡ endsOf x s t → r ≡ y → endsOf view a b ≡ y
-  ends-are h k = sym (h ∙ ap (λ (v : View). endsOf v s t) e ∙ ap (λ (p : Shown). endsOf view p t) f ∙ ap (endsOf view a) g) ∙ k
+-- a view that equals the one at hand
+module _ {view x : View} (a b : Shown) (e : x ≡ view) where
+  pub ends-are : {r y : Bool} → r ≡ endsOf x a b → r ≡ y → endsOf view a b ≡ y
+  ends-are h k = sym (h ∙ ap (λ (v : View). endsOf v a b) e) ∙ k
 
-  pub halves-are : (d : ℕ) (m : Shown) → endsOf view a b ≡ false → (d ≡ 0 → ⊥) → m ≡ middleOf x s t
+  pub halves-are : (d : ℕ) (m : Shown) → endsOf view a b ≡ false → (d ≡ 0 → ⊥) → m ≡ middleOf x a b
       → walk d view a b ≡ halved (join (walk (d - 1) view a m) (walk (d - 1) view m b))
-  halves-are d m h z k =
-      walk-half view a b d m h z (k ∙ ap (λ (v : View). middleOf v s t) e ∙ ap (λ (p : Shown). middleOf view p t) f ∙ ap (middleOf view a) g)
+  halves-are d m h z k = walk-half view a b d m h z (k ∙ ap (λ (v : View). middleOf v a b) e)
 
 pub shown-are : {view x : View} {u v : Vector} {q : Shown} → x ≡ view → v ≡ u → q ≡ shownOf x v → q ≡ shownOf view u
 shown-are {view} {x} {u} {v} e f h = h ∙ ap (λ (y : View). shownOf y v) e ∙ ap (shownOf view) f

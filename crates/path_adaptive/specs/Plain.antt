@@ -1,4 +1,4 @@
--- The plain numbers in which the walk of a span runs: the screen, a point with its place on it, and a tally.
+-- The plain numbers in which the walk of a span runs: the screen, and a tally.
 use mathlib.Core.Path.{_≡_}
 use mathlib.Core.List.{List}
 use Prim.Native.Nat.{ℕ, zero, suc}
@@ -6,7 +6,6 @@ use lib.ListN.{getD}
 use lib.Ieee.{Float, nan}
 use Rattle.refusal.specs.declared.Refusal.the-variants.{Room, Deep}
 use Rattle.path_adaptive.specs.declared.View.{View}
-use Rattle.path_adaptive.specs.declared.Shown.{Shown}
 use Rattle.path_adaptive.specs.declared.Tally.{Tally}
 use Rattle.path_adaptive.specs.declared.Tally.the-variants.{Left, Met}
 use Rattle.path_adaptive.specs.Walk.{Walk}
@@ -40,9 +39,6 @@ viewAt l =
       square = getD l 18 nan;
       tolerance = getD l 19 nan;
     }
-
-abbrev pub shownAt : Float → Float → Float → Float → Float → Float → Shown
-shownAt x y z u v w = record { here = record { x = x; y = y; z = z }; seen = record { x = u; y = v; z = w } }
 
 -- 0 where a span was too deep, 1 where room lacked, else two more than the points left
 unfoldable pub tallyOf : ℕ → ℕ → Tally

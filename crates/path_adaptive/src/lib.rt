@@ -25,7 +25,7 @@ ghost use Rattle.path.specs.Left.{left};
 ghost use Rattle.path.specs.Tests.{coordinatesGood};
 ghost use Rattle.path_adaptive.specs.Walk.{viewOf, shownOf, middleOf, bothBelow, bothAbove, outsideOf, endsOf, one, walk, walkFrom, strokeOf, walksOf, adapted, Calm};
 ghost use Rattle.path_adaptive.specs.Tally.{pointed, begun, spentStroke, spentAll, verdictOf};
-ghost use Rattle.path_adaptive.specs.Plain.{viewAt, shownAt, tallyOf, pointsOf, Meets};
+ghost use Rattle.path_adaptive.specs.Plain.{viewAt, tallyOf, pointsOf, Meets};
 ghost use Rattle.path_adaptive.specs.Call.{said, entriesOf, toleranceGood, numbersGood, pointRoom, adaptiveVerdict, adaptiveLeft};
 
 // What chop_adaptive wrote and how many halvings it made, or why it was refused.
@@ -230,67 +230,31 @@ fn begin(t: Tally) -> Tally
     }
 }
 
-// A point and its place on the screen from their six numbers.
-fn shown_at(x: f64, y: f64, z: f64, u: f64, v: f64, w: f64) -> Shown
-    ensures { λ r. ⌜ r ≡ shownAt x y z u v w ⌝ }
-{
-    Shown {
-        here: Vector { x: x, y: y, z: z },
-        seen: Vector { x: u, y: v, z: w },
-    }
-}
-
-// What the walk of a span that is halved meets, left half first, with a falling depth: see tally_of for the numbers.
-// All comes as plain numbers, which are passed in registers, and the screen behind a reference: a struct is copied at each call.
+// What the walk of a span that is halved meets, from a, seen at s, to b, seen at t, left half first, with a falling depth: see tally_of for the numbers.
+// The screen comes behind a reference, and an end as two vectors, not as one struct of both: each is copied at every call, and a pair is copied slowly.
 fn measure(
     lens: &[f64; 20],
-    ax: f64,
-    ay: f64,
-    az: f64,
-    au: f64,
-    av: f64,
-    aw: f64,
-    bx: f64,
-    by: f64,
-    bz: f64,
-    bu: f64,
-    bv: f64,
-    bw: f64,
+    a: Vector,
+    s: Vector,
+    b: Vector,
+    t: Vector,
     depth: u32,
     n: usize,
 ) -> usize
-    requires { ⌜ (endsOf (viewAt (now lens)) (shownAt ax ay az au av aw) (shownAt bx by bz bu bv bw) ≡ false) × (2 ≤ n) ⌝ }
-    ensures { λ r. ⌜ Meets n (walk depth (viewAt (now (lens .entry))) (shownAt ax ay az au av aw) (shownAt bx by bz bu bv bw)) r ⌝ }
+    requires { ⌜ (endsOf (viewAt (now lens)) (record { here = a; seen = s }) (record { here = b; seen = t }) ≡ false) × (2 ≤ n) ⌝ }
+    ensures { λ r. ⌜ Meets n (walk depth (viewAt (now (lens .entry))) (record { here = a; seen = s }) (record { here = b; seen = t })) r ⌝ }
 {
     if depth == 0 {
         return TOO_DEEP;
     }
     let view = view_at(lens);
-    let p = shown_at(ax, ay, az, au, av, aw);
-    let q = shown_at(bx, by, bz, bu, bv, bw);
+    let p = Shown { here: a, seen: s };
+    let q = Shown { here: b, seen: t };
     let m = middle(view, p, q);
-    let h = m.here;
-    let s = m.seen;
     let l = if ends(view, p, m) {
         n - 1
     } else {
-        measure(
-            lens,
-            ax,
-            ay,
-            az,
-            au,
-            av,
-            aw,
-            h.x,
-            h.y,
-            h.z,
-            s.x,
-            s.y,
-            s.z,
-            depth - 1,
-            n,
-        )
+        measure(lens, a, s, m.here, m.seen, depth - 1, n)
     };
     if l < RUNNING {
         return l;
@@ -298,23 +262,7 @@ fn measure(
     if ends(view, m, q) {
         return l - 1;
     }
-    measure(
-        lens,
-        h.x,
-        h.y,
-        h.z,
-        s.x,
-        s.y,
-        s.z,
-        bx,
-        by,
-        bz,
-        bu,
-        bv,
-        bw,
-        depth - 1,
-        l,
-    )
+    measure(lens, m.here, m.seen, b, t, depth - 1, l)
 }
 
 // Writes a point, and says where the next goes.
@@ -329,79 +277,35 @@ fn add_point(out: &mut [f64], o: usize, v: Vector) -> usize
 // Writes the points of the walk of a span that is halved from place o on, where it does not end too deep, and says where the next goes.
 fn halve(
     lens: &[f64; 20],
-    ax: f64,
-    ay: f64,
-    az: f64,
-    au: f64,
-    av: f64,
-    aw: f64,
-    bx: f64,
-    by: f64,
-    bz: f64,
-    bu: f64,
-    bv: f64,
-    bw: f64,
+    a: Vector,
+    s: Vector,
+    b: Vector,
+    t: Vector,
     depth: u32,
     out: &mut [f64],
     o: usize,
 ) -> usize
-    requires { ⌜ (endsOf (viewAt (now lens)) (shownAt ax ay az au av aw) (shownAt bx by bz bu bv bw) ≡ false)
-        × (walk depth (viewAt (now lens)) (shownAt ax ay az au av aw) (shownAt bx by bz bu bv bw) .deep ≡ false)
-        × (o + length (walk depth (viewAt (now lens)) (shownAt ax ay az au av aw) (shownAt bx by bz bu bv bw) .points) ≤ mostPoints) ⌝ }
-    ensures { λ r. ⌜ pen (now (out .exit)) r ≡ inked putPoints (pen (now (out .entry)) o) (walk depth (viewAt (now (lens .entry))) (shownAt ax ay az au av aw) (shownAt bx by bz bu bv bw) .points) ⌝ }
+    requires { ⌜ (endsOf (viewAt (now lens)) (record { here = a; seen = s }) (record { here = b; seen = t }) ≡ false)
+        × (walk depth (viewAt (now lens)) (record { here = a; seen = s }) (record { here = b; seen = t }) .deep ≡ false)
+        × (o + length (walk depth (viewAt (now lens)) (record { here = a; seen = s }) (record { here = b; seen = t }) .points) ≤ mostPoints) ⌝ }
+    ensures { λ r. ⌜ pen (now (out .exit)) r ≡ inked putPoints (pen (now (out .entry)) o) (walk depth (viewAt (now (lens .entry))) (record { here = a; seen = s }) (record { here = b; seen = t }) .points) ⌝ }
 {
     if depth == 0 {
         return o;
     }
     let view = view_at(lens);
-    let p = shown_at(ax, ay, az, au, av, aw);
-    let q = shown_at(bx, by, bz, bu, bv, bw);
+    let p = Shown { here: a, seen: s };
+    let q = Shown { here: b, seen: t };
     let m = middle(view, p, q);
-    let h = m.here;
-    let s = m.seen;
     let l = if ends(view, p, m) {
-        add_point(out, o, h)
+        add_point(out, o, m.here)
     } else {
-        halve(
-            lens,
-            ax,
-            ay,
-            az,
-            au,
-            av,
-            aw,
-            h.x,
-            h.y,
-            h.z,
-            s.x,
-            s.y,
-            s.z,
-            depth - 1,
-            out,
-            o,
-        )
+        halve(lens, a, s, m.here, m.seen, depth - 1, out, o)
     };
     if ends(view, m, q) {
-        return add_point(out, l, q.here);
+        return add_point(out, l, b);
     }
-    halve(
-        lens,
-        h.x,
-        h.y,
-        h.z,
-        s.x,
-        s.y,
-        s.z,
-        bx,
-        by,
-        bz,
-        bu,
-        bv,
-        bw,
-        depth - 1,
-        out,
-        l,
-    )
+    halve(lens, m.here, m.seen, b, t, depth - 1, out, l)
 }
 
 // What the walk of a span meets.
@@ -414,27 +318,7 @@ fn measure_span(lens: &[f64; 20], a: Shown, b: Shown, n: usize) -> usize
     if ends(view_at(lens), a, b) {
         return n - 1;
     }
-    let p = a.here;
-    let s = a.seen;
-    let q = b.here;
-    let t = b.seen;
-    measure(
-        lens,
-        p.x,
-        p.y,
-        p.z,
-        s.x,
-        s.y,
-        s.z,
-        q.x,
-        q.y,
-        q.z,
-        t.x,
-        t.y,
-        t.z,
-        DEPTH,
-        n,
-    )
+    measure(lens, a.here, a.seen, b.here, b.seen, DEPTH, n)
 }
 
 // What the spans over the points from place i up to e meet, after the point before them.
@@ -503,31 +387,10 @@ fn write_span(lens: &[f64; 20], a: Shown, b: Shown, out: &mut [f64], o: usize) -
     requires { ⌜ (walk 64 (viewAt (now lens)) a b .deep ≡ false) × (o + length (walk 64 (viewAt (now lens)) a b .points) ≤ mostPoints) ⌝ }
     ensures { λ r. ⌜ pen (now (out .exit)) r ≡ inked putPoints (pen (now (out .entry)) o) (walk 64 (viewAt (now (lens .entry))) a b .points) ⌝ }
 {
-    let q = b.here;
     if ends(view_at(lens), a, b) {
-        return add_point(out, o, q);
+        return add_point(out, o, b.here);
     }
-    let p = a.here;
-    let s = a.seen;
-    let t = b.seen;
-    halve(
-        lens,
-        p.x,
-        p.y,
-        p.z,
-        s.x,
-        s.y,
-        s.z,
-        q.x,
-        q.y,
-        q.z,
-        t.x,
-        t.y,
-        t.z,
-        DEPTH,
-        out,
-        o,
-    )
+    halve(lens, a.here, a.seen, b.here, b.seen, DEPTH, out, o)
 }
 
 // Writes what the spans over the points from place i up to e give.

@@ -2,7 +2,6 @@
 use Rattle.path_adaptive.proofs.Walks.{walk-ends, ends-are}
 use Rattle.path_adaptive.proofs.Meets.{meets-stop, meets-one}
 use native.Mathlib.Omega.{arith}
-use mathlib.Core.Path.{refl}
 use borrow.Author.Needs.{needs}
 use Rattle.path_adaptive.proofs.measure_span.Statement.{statement}
 use Rattle.path_adaptive.proofs.measure_span.Tie as tie
@@ -20,10 +19,10 @@ sub-result : tie.Need-sub-result
 sub-result c = search needs
 
 returns-2 : tie.Need-returns-2
-returns-2 c = meets-one _ _ _ (omega arith) (walk-ends _ _ _ 64 (ends-are (c .before .before .view-at .ensures) refl refl (c .before .ends .ensures) (c .if2 .taken)))
+returns-2 c = meets-one _ _ _ (omega arith) (walk-ends _ _ _ 64 (ends-are _ _ (c .before .before .view-at .ensures) (c .before .ends .ensures) (c .if2 .taken)))
 
 measure-requires : tie.Need-measure-requires
-measure-requires c κs = (ends-are (c .before .before .before .before .before .before .view-at .ensures) refl refl (c .before .before .before .before .before .ends .ensures) (c .before .before .before .before .if2 .left), omega arith)
+measure-requires c κs = (ends-are _ _ (c .before .before .view-at .ensures) (c .before .ends .ensures) (c .if2 .left), omega arith)
 
 returns-3 : tie.Need-returns-3
 returns-3 c = search needs
