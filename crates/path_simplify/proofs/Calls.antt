@@ -1,5 +1,6 @@
 -- What an accepted simplify has been tested for, and what then holds. Assumes nothing.
 use mathlib.Core.Path.{_≡_}
+use mathlib.Core.Bool.{true}
 use mathlib.Core.List.{List}
 use Prim.Native.Nat.{ℕ, _*_, _/_, _%_, _≤_}
 use native.Mathlib.Omega.{arith}
@@ -24,6 +25,7 @@ pub record Good (ps : List Float) (ss : List ℕ) (t : Float) (room startRoom : 
   pub fit : length (joined (simplified (simplifiedOf t ps ss))) * 3 ≤ room
   pub start-fit : length (nonEmpty (simplified (simplifiedOf t ps ss))) ≤ startRoom
   pub quick : distances (simplifiedOf t ps ss) ≤ 4294967296
+  pub table : goodStarts (length ps / 3) ss ≡ true
 
 module _ (ps : List Float) (ss : List ℕ) (t : Float) (room startRoom : ℕ) where
   pub simplify-accepted : simplifyVerdict ps ss t room startRoom ≡ Accepted → Good ps ss t room startRoom
@@ -46,4 +48,5 @@ module _ (ps : List Float) (ss : List ℕ) (t : Float) (room startRoom : ℕ) wh
         fit = omega arith;
         start-fit = omega (arith, no-more-kept (simplified (simplifiedOf t ps ss)), all-strokes t (pointAt ps) (length ps / 3) ss);
         quick = omega arith;
+        table = table .1;
       }

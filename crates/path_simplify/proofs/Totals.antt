@@ -1,12 +1,12 @@
 -- Laws of leaving points out of every stroke. Assumes nothing.
-use mathlib.Core.Path.{_≡_, refl, sym, ap, _∙_}
+use mathlib.Core.Path.{_≡_, refl, sym, ap, _∙_, subst}
 use mathlib.Core.Logic.{⊎-elim}
 use mathlib.Core.Bool.{true, _&&_}
 use mathlib.Core.List.{List, [], _∷_, _++_}
-use Prim.Native.Nat.{ℕ, suc, _+_, _-_, _*_, _≤_, _<_}
+use Prim.Native.Nat.{ℕ, zero, suc, _+_, _-_, _*_, _≤_, _<_}
 use native.Mathlib.Omega.{arith}
 use native.Mathlib.Numerals.{add-one}
-use native.Mathlib.Nat.{add-zero, mul-le-mul-right}
+use native.Mathlib.Nat.{add-zero, le-refl, mul-le-mul-right}
 use lib.ListN.{length, getD, drop, length-append, drop-of-length-le}
 use lib.Seq.{drop-cons, getD-drop}
 use lib.Dec.{leb, eqb}
@@ -137,3 +137,17 @@ module _ (n : ℕ) (ss : List ℕ) (i : ℕ) where
   pub short-none : length ss ≤ i → shortOf n (drop i ss) ≡ true
   unfolding shortOf
   short-none h = rw (drop-of-length-le ss h)
+
+-- ---- where a stroke ends
+
+ends-from : (n prev : ℕ) (ss : List ℕ) (i : ℕ) → goodFrom n prev ss ≡ true → getD ss i n ≤ n
+unfolding goodFrom
+ends-from n prev [] i h = le-refl n
+ends-from n prev (s ∷ ss) zero h = leb-true s n (both (leb prev s) (leb s n) (both (leb prev s && leb s n) (goodFrom n s ss) h .0) .1)
+ends-from n prev (s ∷ ss) (suc i) h = ends-from n s ss i (both (leb prev s && leb s n) (goodFrom n s ss) h .1)
+
+-- in a good table no stroke ends past the points
+pub ends-in : (n : ℕ) (ss : List ℕ) (i : ℕ) → goodStarts n ss ≡ true → getD ss (i + 1) n ≤ n
+unfolding goodStarts
+ends-in n [] i h = le-refl n
+ends-in n (s ∷ ss) i h = subst (λ (k : ℕ). getD (s ∷ ss) k n ≤ n) (sym (add-one i)) (ends-from n s ss i (both (eqb s 0) (goodFrom n s ss) h .1))

@@ -20,7 +20,7 @@ ghost use lib.ListN.{length};
 ghost use lib.Dec.{leb};
 ghost use lib.Ieee.{binary64, div, eq, lt};
 ghost use Rattle.refusal.specs.Limits.{mostPoints, mostToSimplify};
-ghost use Rattle.path.specs.Strokes.{pointAt};
+ghost use Rattle.path.specs.Strokes.{pointAt, goodStarts};
 ghost use Rattle.path.specs.Laid.{putPoints, pen, inked, out, push, pushAll, joined};
 ghost use Rattle.path.specs.Left.{left};
 ghost use Rattle.path_simplify.specs.Simplify.{fartherOf, farthest, splitsAt, thin, thinned, simplified, distances, simplifiedOf, placeOf};
@@ -119,20 +119,33 @@ fn farther(best: Best, i: usize, p: Vector, a: Vector, b: Vector) -> Best
     best
 }
 
+// The point at place i, which is there: nothing is tested.
+fn point_in(points: &[f64], i: usize) -> Vector
+    requires { ⌜ i < length (now points) / 3 ⌝ }
+    ensures { λ r. ⌜ r ≡ pointAt (now (points .entry)) i ⌝ }
+{
+    let k = i * 3;
+    Vector {
+        x: points[k],
+        y: points[k + 1],
+        z: points[k + 2],
+    }
+}
+
 // The first farthest of the points between lo and hi from the segment between those two.
 fn find_far(points: &[f64], lo: usize, hi: usize) -> Best
-    requires { ⌜ lo < hi ⌝ }
+    requires { ⌜ (lo < hi) × (hi < length (now points) / 3) ⌝ }
     ensures { λ r. ⌜ farOf r ≡ farthest (pointAt (now (points .entry))) lo hi ⌝ }
 {
-    let a = point_at(points, lo);
-    let b = point_at(points, hi);
+    let a = point_in(points, lo);
+    let b = point_in(points, hi);
     let mut best = Best {
         at: lo,
         square: 0.0,
     };
     let mut i = lo + 1;
     while i < hi {
-        best = farther(best, i, point_at(points, i), a, b);
+        best = farther(best, i, point_in(points, i), a, b);
         i += 1;
     }
     best
@@ -151,7 +164,7 @@ fn splits(f: Best, lo: usize, threshold: f64) -> bool
 
 // Writes what is kept of the points from lo up to hi, but for the last, by recursion on the falling length.
 fn keep(points: &[f64], lo: usize, hi: usize, threshold: f64, out: &mut [f64], at: usize) -> Kept
-    requires { ⌜ (at + length (thin (hi - lo) threshold (pointAt (now points)) lo hi .points) ≤ mostPoints) × (thin (hi - lo) threshold (pointAt (now points)) lo hi .measured ≤ 4294967296) ⌝ }
+    requires { ⌜ (at + length (thin (hi - lo) threshold (pointAt (now points)) lo hi .points) ≤ mostPoints) × (thin (hi - lo) threshold (pointAt (now points)) lo hi .measured ≤ 4294967296) × (hi < length (now points) / 3) ⌝ }
     ensures { λ r. ⌜ (pen (now (out .exit)) (r .points) ≡ inked putPoints (pen (now (out .entry)) at) (thin (hi - lo) threshold (pointAt (now (points .entry))) lo hi .points))
         × (r .distances ≡ thin (hi - lo) threshold (pointAt (now (points .entry))) lo hi .measured) ⌝ }
 {
@@ -187,7 +200,7 @@ fn write_thinned(
     out: &mut [f64],
     at: usize,
 ) -> Kept
-    requires { ⌜ (a < e) × (at + length (thinned threshold (pointAt (now points)) a e .points) ≤ mostPoints) × (thinned threshold (pointAt (now points)) a e .measured ≤ 4294967296) ⌝ }
+    requires { ⌜ (a < e) × (at + length (thinned threshold (pointAt (now points)) a e .points) ≤ mostPoints) × (thinned threshold (pointAt (now points)) a e .measured ≤ 4294967296) × (e ≤ length (now points) / 3) ⌝ }
     ensures { λ r. ⌜ (pen (now (out .exit)) (r .points) ≡ inked putPoints (pen (now (out .entry)) at) (thinned threshold (pointAt (now (points .entry))) a e .points))
         × (r .distances ≡ thinned threshold (pointAt (now (points .entry))) a e .measured) ⌝ }
 {
@@ -212,7 +225,7 @@ fn write_stroke(
     w: Progress,
 ) -> Progress
     requires { ⌜ (w .points + length (thinned threshold (pointAt (now points)) a e .points) ≤ mostPoints) × (w .starts ≤ mostPoints)
-        × (w .distances + thinned threshold (pointAt (now points)) a e .measured ≤ 4294967296) ⌝ }
+        × (w .distances + thinned threshold (pointAt (now points)) a e .measured ≤ 4294967296) × (e ≤ length (now points) / 3) ⌝ }
     ensures { λ r. ⌜ (out (now («out_points» .exit)) (now («out_starts» .exit)) (placeOf r)
         ≡ push putPoints (out (now («out_points» .entry)) (now («out_starts» .entry)) (placeOf w)) (thinned threshold (pointAt (now (points .entry))) a e .points))
         × (r .distances ≡ w .distances + thinned threshold (pointAt (now (points .entry))) a e .measured) ⌝ }
@@ -240,7 +253,7 @@ fn write_strokes(
     out_starts: &mut [u32],
 ) -> Progress
     requires { ⌜ (length (joined (simplified (simplifiedOf threshold (now points) (now starts)))) ≤ mostPoints) × (length (now starts) ≤ mostPoints)
-        × (distances (simplifiedOf threshold (now points) (now starts)) ≤ 4294967296) ⌝ }
+        × (distances (simplifiedOf threshold (now points) (now starts)) ≤ 4294967296) × (goodStarts (length (now points) / 3) (now starts) ≡ true) ⌝ }
     ensures { λ r. ⌜ (out (now («out_points» .exit)) (now («out_starts» .exit)) (placeOf r)
         ≡ pushAll putPoints (out (now («out_points» .entry)) (now («out_starts» .entry)) (record { points = 0; starts = 0 })) (simplified (simplifiedOf threshold (now (points .entry)) (now (starts .entry)))))
         × (r .distances ≡ distances (simplifiedOf threshold (now (points .entry)) (now (starts .entry)))) ⌝ }

@@ -42,7 +42,7 @@ keep-returns t c =
     (sym (ap (λ (x : Thin). inked putPoints (pen (a .out .now) (a .at)) (x .points)) z ∙ ink-none points-lie (pen (a .out .now) (a .at))), ap (λ (x : Thin). x .measured) (sym z))
 
 keep-find-far-requires : (t : ℕ) → keep-lts.Need-find-far-requires (claims t) (keep-at t) keep.Post
-keep-find-far-requires t c κs = omega arith
+keep-find-far-requires t c κs = (omega arith, c .before .before .before .pre .1 .2)
 
 keep-splits-requires : (t : ℕ) → keep-lts.Need-splits-requires (claims t) (keep-at t) keep.Post
 keep-splits-requires t c κs = search needs
@@ -55,7 +55,7 @@ keep-keep-requires t c κs =
     let k = thin-split (a .threshold) at (a .lo) (a .hi) (omega arith) (farOf (f .result)) (f .ensures) (sym (c .before .before .splits .ensures) ∙ c .before .if2 .taken) in
     let n = parts-length _ _ _ _ (k .2) in
     let d = parts-measured _ _ _ _ (k .2) in
-    (omega arith, (omega arith, omega arith))
+    (omega arith, (omega arith, omega arith, omega (arith, c .before .before .before .before .before .before .before .pre .1 .2, k)))
 
 keep-keep-requires-2 : (t : ℕ) → keep-lts.Need-keep-requires-2 (claims t) (keep-at t) keep.Post
 keep-keep-requires-2 t c κs =
@@ -66,7 +66,7 @@ keep-keep-requires-2 t c κs =
     let n = parts-length _ _ _ _ (k .2) in
     let d = parts-measured _ _ _ _ (k .2) in
     let o = ink-place putPoints (pen (a .out .now) (a .at)) (thin (f .result .at - a .lo) (a .threshold) at (a .lo) (f .result .at) .points) (c .before .before .before .keep .ensures .0) in
-    (omega arith, (omega arith, omega arith))
+    (omega arith, (omega arith, omega arith, c .before .before .before .before .before .before .before .before .before .before .before .pre .1 .2))
 
 keep-sub-t17 : (t : ℕ) → keep-lts.Need-sub-t17 (claims t) (keep-at t) keep.Post
 keep-sub-t17 t c = omega arith

@@ -19,11 +19,11 @@ Inv-loop points lo hi a b best₀ i₀ best i = (i ≤ hi) × (farFrom (pointAt 
 abbrev μ-loop : tie.MeasureT-loop
 μ-loop points lo hi a b best₀ i₀ best i = hi - i
 
-point-at-requires : tie.Need-point-at-requires Inv-loop μ-loop
-point-at-requires c κs = search needs
+point-in-requires : tie.Need-point-in-requires Inv-loop μ-loop
+point-in-requires c κs = search needs
 
-point-at-requires-2 : tie.Need-point-at-requires-2 Inv-loop μ-loop
-point-at-requires-2 c κs = search needs
+point-in-requires-2 : tie.Need-point-in-requires-2 Inv-loop μ-loop
+point-in-requires-2 c κs = search needs
 
 add-i : tie.Need-add-i Inv-loop μ-loop
 add-i c = omega arith
@@ -31,8 +31,8 @@ add-i c = omega arith
 loop-holds : tie.Need-loop-holds Inv-loop μ-loop
 loop-holds c = (omega arith, rw zero-rooted)
 
-point-at-requires-3 : tie.Need-point-at-requires-3 Inv-loop μ-loop
-point-at-requires-3 c κs = search needs
+point-in-requires-3 : tie.Need-point-in-requires-3 Inv-loop μ-loop
+point-in-requires-3 c κs = search needs
 
 farther-requires : tie.Need-farther-requires Inv-loop μ-loop
 farther-requires c κs = search needs
@@ -47,7 +47,7 @@ loop-again : tie.Need-loop-again Inv-loop μ-loop
 loop-again c =
     let l = c .before .before .before in
     let a = l .before .before .before .before .args in
-    let d = ap (λ (x : Vector). segmentDistanceOf x (l .before .before .point-at .result) (l .before .point-at2 .result)) (c .before .point-at3 .ensures) in
+    let d = ap (λ (x : Vector). segmentDistanceOf x (l .before .before .point-in .result) (l .before .point-in2 .result)) (c .before .point-in3 .ensures) in
     (omega arith, far-turn (pointAt (a .points .now)) _ _ (farOf (l .loop .best)) (l .loop .i) (a .hi) (search needs) _ d (c .farther .ensures) ∙ l .loop .inv .1)
 
 returns : tie.Need-returns Inv-loop μ-loop
@@ -56,7 +56,7 @@ returns c =
     let l = c .before in
     let a = l .before .before .before .before .args in
     sym (far-end (pointAt (a .points .now)) _ _ (farOf (l .loop .best)) (l .loop .i) (a .hi) (search needs)) ∙ l .loop .inv .1
-    ∙ rw (l .before .before .point-at .ensures, l .before .point-at2 .ensures)
+    ∙ rw (l .before .before .point-in .ensures, l .before .point-in2 .ensures)
 
 pub find-far-spec : {M : Type 1} → statement M
 find-far-spec =
@@ -64,11 +64,11 @@ find-far-spec =
     (tie.spec
     Inv-loop
     μ-loop
-    point-at-requires
-    point-at-requires-2
+    point-in-requires
+    point-in-requires-2
     add-i
     loop-holds
-    point-at-requires-3
+    point-in-requires-3
     farther-requires
     add-i-2
     loop-less

@@ -1,15 +1,15 @@
 -- `write_strokes` meets its contract.
 use borrow.Author.Needs.{needs}
-use Rattle.path_simplify.proofs.Totals.{thins-more, thins-none, more-points, more-distances}
+use Rattle.path_simplify.proofs.Totals.{thins-more, thins-none, more-points, more-distances, ends-in}
 use Rattle.path.proofs.Pushes.{push-turn, push-end, push-room, push-starts}
 use Rattle.path.specs.Strokes.{pointAt}
 use Rattle.path.specs.Laid.{putPoints, out, pushAll}
 use Rattle.path_simplify.specs.Simplify.{simplified, distances, simplifiedOf, placeOf}
-use Prim.Native.Nat.{_/_}
+use Prim.Native.Nat.{ℕ, _/_}
 use lib.ListN.{length, drop}
 use Prim.Native.Nat.{zero-le, _+_, _-_, _≤_}
 use native.Mathlib.Omega.{arith}
-use mathlib.Core.Path.{_≡_, refl, sym, ap, _∙_}
+use mathlib.Core.Path.{_≡_, refl, sym, ap, _∙_, subst}
 use Rattle.path_simplify.proofs.write_strokes.Statement.{statement}
 use Rattle.path_simplify.proofs.write_strokes.Tie as tie
 
@@ -42,8 +42,9 @@ write-stroke-requires c κs =
     let a = l .before .before .before .before .before .args in
     let m = thins-more (a .threshold) (pointAt (a .points .now)) (length (a .points .now) / 3) (a .starts .now) (l .loop .i) _ (search needs) (c .before .before .end-of .ensures) in
     let o = out (l .loop .out-points) (l .loop .out-starts) (placeOf (l .loop .w)) in
+    let room = subst (λ (k : ℕ). k ≤ length (a .points .now) / 3) (sym (c .before .before .end-of .ensures)) (ends-in (length (a .points .now) / 3) (a .starts .now) (l .loop .i) (l .before .before .before .before .before .pre .3)) in
     let r = push-room putPoints o _ _ _ _ (ap (pushAll putPoints o) (sym (more-points m)) ∙ l .loop .inv .4) refl in
-    omega (arith, more-distances m)
+    omega (arith, more-distances m, room)
 
 add-i : tie.Need-add-i Inv-loop μ-loop
 add-i c = omega arith
