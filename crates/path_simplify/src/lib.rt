@@ -85,10 +85,8 @@ fn clamped_square(p: Vector, v: Vector, w: Vector) -> f64
 fn inside(d: f64, l2: f64) -> bool
     ensures { λ r. ⌜ (r ≡ true → (eq l2 zero64 ≡ false) × (lt (div binary64 d l2) zero64 ≡ false) × (lt one64 (div binary64 d l2) ≡ false)) ⌝ }
 {
-    if d > 0.0 {
-        if l2 > 0.0 {
-            return !(d > l2);
-        }
+    if d < l2 {
+        return d > 0.0;
     }
     false
 }
