@@ -3,4 +3,5 @@ pub mod Gathers
 pub mod Pushes
 pub mod Points
 pub mod Tests
+pub mod Bounds
 pub mod Lefts

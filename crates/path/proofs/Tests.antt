@@ -1,14 +1,15 @@
 -- Laws of the tests before a call. Assumes nothing.
-use mathlib.Core.Path.{_≡_, refl, sym}
+use mathlib.Core.Path.{_≡_, refl, sym, ap}
 use mathlib.Core.Logic.{_⊎_, inl, inr}
-use mathlib.Core.Bool.{Bool, true, false, _&&_, true≢false}
+use mathlib.Core.Bool.{Bool, true, false, cond, _&&_, true≢false}
 use mathlib.Core.List.{List}
-use Prim.Native.Nat.{ℕ, _+_, _≤_, _<_}
+use Prim.Native.Nat.{ℕ, suc, _+_, _≤_, _<_}
 use native.Mathlib.Omega.{arith}
 use native.Mathlib.Numerals.{add-one}
+use native.Mathlib.Nat.{add-zero}
 use lib.ListN.{length, getD, drop, drop-of-length-le}
 use lib.Seq.{drop-cons}
-use lib.Dec.{leb}
+use lib.Dec.{T, leb, eqb, eqb→eq}
 use lib.Ieee.{Float, nan}
 use borrow.Author.Tests.{leb-true, leb-false}
 use Rattle.refusal.specs.Limits.{mostPoints, mostStrokes}
@@ -47,13 +48,23 @@ few-points points strokes h = leb-true points mostPoints (both (leb points mostP
 
 -- the coordinates from place i on
 module _ (xs : List Float) (i : ℕ) where
-  pub good-more : i < length xs → coordinateGood (getD xs i nan) ≡ true → coordinatesGood (drop (i + 1) xs) ≡ coordinatesGood (drop i xs)
+  -- a turn of the loop that counts the bad ones
+  pub good-turn : i < length xs → (bad more : ℕ) → more ≡ cond (coordinateGood (getD xs i nan)) 0 1
+      → (more ≤ 1) × (eqb (bad + more) 0 && coordinatesGood (drop (i + 1) xs) ≡ eqb bad 0 && coordinatesGood (drop i xs))
   unfolding coordinatesGood
-  good-more h g = rw (drop-cons xs i nan h, g, add-one)
+  good-turn h bad more e = rw (drop-cons xs i nan h, add-one, e) (go (coordinateGood (getD xs i nan)) (coordinatesGood (drop (suc i) xs)))
+    where
+      go : (y z : Bool) → (cond y 0 1 ≤ 1) × (eqb (bad + cond y 0 1) 0 && z ≡ eqb bad 0 && (y && z))
+      go true z = (omega arith, ap (λ (k : ℕ). eqb k 0 && z) (add-zero bad))
+      go false z = (omega arith, rw (none (eqb (bad + 1) 0) (eqb→eq (bad + 1) 0)) (sym (last (eqb bad 0))))
+        where
+          none : (b : Bool) → (T b → bad + 1 ≡ 0) → b ≡ false
+          none true f = absurd (omega (arith, f tt))
+          none false f = refl
 
-  pub good-bad : i < length xs → coordinateGood (getD xs i nan) ≡ false → coordinatesGood (drop i xs) ≡ false
-  unfolding coordinatesGood
-  good-bad h g = rw (drop-cons xs i nan h, g)
+          last : (b : Bool) → b && false ≡ false
+          last true = refl
+          last false = refl
 
   pub good-all : length xs ≤ i → coordinatesGood (drop i xs) ≡ true
   unfolding coordinatesGood

@@ -2,8 +2,8 @@
 use refusal::MOST_POINTS;
 use refusal::MOST_STROKES;
 use vector::Vector;
-use vector::number::abs;
 ghost use mathlib.Core.Path.{_≡_};
+ghost use mathlib.Core.Bool.{cond};
 ghost use Prim.Native.Nat.{_+_, _*_};
 ghost use lib.ListN.{getD, set};
 ghost use lib.Ieee.{nan};
@@ -175,21 +175,33 @@ const MOST_NUMBER: f64 = 1048576.0;
 pub fn coordinate_good(x: f64) -> bool
     ensures { λ r. ⌜ r ≡ coordinateGood x ⌝ }
 {
-    abs(x) <= MOST_NUMBER
+    if x < -MOST_NUMBER {
+        return false;
+    }
+    x <= MOST_NUMBER
 }
 
-// Whether all coordinates are.
+// 1 where a coordinate is bad, else 0.
+fn bad_one(x: f64) -> usize
+    ensures { λ r. ⌜ r ≡ cond (coordinateGood x) 0 1 ⌝ }
+{
+    if coordinate_good(x) {
+        return 0;
+    }
+    1
+}
+
+// Whether all coordinates are. The bad ones are counted: a loop with no way out looks at several at once.
 pub fn coordinates_good(xs: &[f64]) -> bool
     ensures { λ r. ⌜ r ≡ coordinatesGood (now (xs .entry)) ⌝ }
 {
+    let mut bad = 0;
     let mut i = 0;
     while i < xs.len() {
-        if !coordinate_good(xs[i]) {
-            return false;
-        }
+        bad = bad + bad_one(xs[i]);
         i += 1;
     }
-    true
+    bad == 0
 }
 
 // Whether a step is above 0 and within the bound.

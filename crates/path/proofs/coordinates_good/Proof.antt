@@ -1,38 +1,41 @@
--- `coordinates_good` meets its contract.
+-- `coordinates_good` meets its contract: what was good so far and what is left make all.
 use borrow.Author.Needs.{needs}
-use Rattle.path.proofs.Tests.{good-more, good-bad, good-all}
-use Rattle.path.specs.Tests.{coordinatesGood}
-use lib.ListN.{length, drop}
-use Prim.Native.Nat.{_-_, _≤_}
-use native.Mathlib.Omega.{arith}
-use borrow.Author.Tests.{not-true, not-false}
+use mathlib.Core.Bool.{Bool, true, false, _&&_}
 use mathlib.Core.Path.{_≡_, refl, sym, _∙_}
+use native.Mathlib.Omega.{arith}
+use Prim.Native.Nat.{_-_, _≤_}
+use lib.ListN.{length, drop}
+use lib.Dec.{eqb}
+use Rattle.path.specs.Tests.{coordinatesGood}
+use Rattle.path.proofs.Tests.{good-turn, good-all}
 use Rattle.path.proofs.coordinates_good.Statement.{statement}
 use Rattle.path.proofs.coordinates_good.Tie as tie
 
 abbrev Inv-loop : tie.InvT-loop
-Inv-loop xs i₀ i = (i ≤ length xs) × (coordinatesGood (drop i xs) ≡ coordinatesGood xs)
+Inv-loop xs bad₀ i₀ bad i = (i ≤ length xs) × (bad ≤ i) × (eqb bad 0 && coordinatesGood (drop i xs) ≡ coordinatesGood xs)
 
 abbrev μ-loop : tie.MeasureT-loop
-μ-loop xs i₀ i = length xs - i
+μ-loop xs bad₀ i₀ bad i = length xs - i
+
+-- where nothing is left
+whole : (a b : Bool) → b ≡ true → a ≡ a && b
+whole true b e = sym e
+whole false b e = refl
 
 loop-holds : tie.Need-loop-holds Inv-loop μ-loop
-loop-holds c = (omega arith, refl)
+loop-holds c = (omega arith, omega arith, refl)
 
-mul-coordinate-good : tie.Need-mul-coordinate-good Inv-loop μ-loop
-mul-coordinate-good c = search needs
+mul-bad-one : tie.Need-mul-bad-one Inv-loop μ-loop
+mul-bad-one c = search needs
 
-shared-slice-read-coordinate-good : tie.Need-shared-slice-read-coordinate-good Inv-loop μ-loop
-shared-slice-read-coordinate-good c = search needs
+shared-slice-read-bad-one : tie.Need-shared-slice-read-bad-one Inv-loop μ-loop
+shared-slice-read-bad-one c = search needs
 
-coordinate-good-requires : tie.Need-coordinate-good-requires Inv-loop μ-loop
-coordinate-good-requires c κs = search needs
+bad-one-requires : tie.Need-bad-one-requires Inv-loop μ-loop
+bad-one-requires c κs = search needs
 
-returns : tie.Need-returns Inv-loop μ-loop
-returns c =
-    let l = c .before .before .before .before in
-    let a = l .before .before .args in
-    sym (good-bad (a .xs .now) (l .loop .i) (search needs) (sym (c .before .coordinate-good .ensures) ∙ not-true _ (c .if1 .taken))) ∙ l .loop .inv .1
+add-bad : tie.Need-add-bad Inv-loop μ-loop
+add-bad c = omega (arith, good-turn (c .before .before .before .before .before .args .xs .now) (c .before .before .before .loop .i) (search needs) (c .before .before .before .loop .bad) (c .bad-one .result) (c .bad-one .ensures) .0)
 
 add-i : tie.Need-add-i Inv-loop μ-loop
 add-i c = omega arith
@@ -42,15 +45,15 @@ loop-less c = omega arith
 
 loop-again : tie.Need-loop-again Inv-loop μ-loop
 loop-again c =
-    let l = c .before .before .before .before in
-    let a = l .before .before .args in
-    (omega arith, good-more (a .xs .now) (l .loop .i) (search needs) (sym (c .before .coordinate-good .ensures) ∙ not-false _ (c .if1 .left)) ∙ l .loop .inv .1)
+    let l = c .before .before .before in
+    let t = good-turn (c .before .before .before .before .before .args .xs .now) (c .before .before .before .loop .i) (search needs) (c .before .before .before .loop .bad) (c .bad-one .result) (c .bad-one .ensures) in
+    (omega arith, omega (arith, t .0), t .1 ∙ l .loop .inv .2)
 
-returns-2 : tie.Need-returns-2 Inv-loop μ-loop
-returns-2 c =
+returns : tie.Need-returns Inv-loop μ-loop
+returns c =
     let l = c .before in
-    let a = l .before .before .args in
-    sym (good-all (a .xs .now) (l .loop .i) (search needs)) ∙ l .loop .inv .1
+    let xs = c .before .before .before .args .xs .now in
+    whole (eqb (l .loop .bad) 0) _ (good-all xs (l .loop .i) (search needs)) ∙ l .loop .inv .2
 
 pub coordinates-good-spec : {M : Type 1} → statement M
 coordinates-good-spec =
@@ -59,11 +62,11 @@ coordinates-good-spec =
     Inv-loop
     μ-loop
     loop-holds
-    mul-coordinate-good
-    shared-slice-read-coordinate-good
-    coordinate-good-requires
-    returns
+    mul-bad-one
+    shared-slice-read-bad-one
+    bad-one-requires
+    add-bad
     add-i
     loop-less
     loop-again
-    returns-2)
+    returns)
