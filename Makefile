@@ -15,8 +15,9 @@ test:
 	@./tools/test
 
 run:
+	@mkdir -p target
 	@rt check list > target/list.log || { cat target/list.log; exit 1; }
-	@cd rust && cargo run --offline --release --quiet --package ramikohy --example casting -- ../target/bin/list
+	@cd rust && cargo run --offline --release --quiet --package ramikohy --example casting -- ../tools/list
 
 compare:
 	@$(run) compare -- $(CALL) $(COUNT) $(SEED)
