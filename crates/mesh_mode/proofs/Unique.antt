@@ -1,8 +1,9 @@
 -- A mode that is answered is told by what is said of it.
-use mathlib.Core.Path.{_≡_, sym, ap, _∙_}
+use mathlib.Core.Path.{_≡_, sym, ap}
 use Prim.Native.Nat.{ℕ}
 use lib.Ieee.{Float}
-use Rattle.refusal.proofs.Unique.{one-refusal, never-both, same-values}
+use Rattle.refusal.specs.One.{One}
+use Rattle.refusal.proofs.Unique.{one-refusal, never-both, same-values, one-read}
 use Rattle.mesh_mode.specs.declared.Moded.{Moded}
 use Rattle.mesh_mode.specs.declared.Moded.the-variants.{Of, Refused}
 use Rattle.mesh_mode.specs.Modes.{modeOf, modeSaid}
@@ -13,5 +14,5 @@ told (Of m) (Refused t) e = absurd (never-both _ t e)
 told (Refused r) (Of n) e = absurd (never-both _ r (sym e))
 told (Refused r) (Refused t) e = ap Refused (one-refusal r t e)
 
-pub one-mode : (n : ℕ) (c : Float) (r t : Moded) → modeSaid r ≡ modeOf n c → modeSaid t ≡ modeOf n c → r ≡ t
-one-mode n c r t p q = told r t (p ∙ sym q)
+pub one-mode : (n : ℕ) (c : Float) → One Moded (λ r. modeSaid r ≡ modeOf n c)
+one-mode n c = one-read modeSaid told (modeOf n c)

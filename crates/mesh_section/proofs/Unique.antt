@@ -3,6 +3,7 @@ use mathlib.Core.Path.{_≡_, sym, ap}
 use mathlib.Core.List.{List}
 use Prim.Native.Nat.{ℕ}
 use lib.Ieee.{Float}
+use Rattle.refusal.specs.One.{One}
 use Rattle.refusal.proofs.Unique.{one-refusal, never-both, same-values}
 use Rattle.path.specs.Left.{left}
 use Rattle.path.proofs.Lefts.{one-left}
@@ -17,7 +18,6 @@ told (Wrote p s) (Refused t) e = absurd (never-both _ t e)
 told (Refused r) (Wrote q u) e = absurd (never-both _ r (sym e))
 told (Refused r) (Refused t) e = ap Refused (one-refusal r t e)
 
-pub one-section : (vs : List Float) (is : List ℕ) (p : Plane) (tolerance : Float) (op : List Float) (os : List ℕ) (r t : Sectioned) (op₁ op₂ : List Float) (os₁ os₂ : List ℕ)
-    → left (said r) op₁ os₁ ≡ sectionLeft vs is p tolerance op os → left (said t) op₂ os₂ ≡ sectionLeft vs is p tolerance op os
-    → (r ≡ t) × (op₁ ≡ op₂) × (os₁ ≡ os₂)
-one-section vs is p tolerance op os r t op₁ op₂ os₁ os₂ e f = one-left said told r t e f
+pub one-section : (vs : List Float) (is : List ℕ) (p : Plane) (tolerance : Float) (op : List Float) (os : List ℕ)
+    → One (Sectioned × List Float × List ℕ) (λ o. left (said (o .0)) (o .1) (o .2) ≡ sectionLeft vs is p tolerance op os)
+one-section vs is p tolerance op os = one-left said told (sectionLeft vs is p tolerance op os)

@@ -5,6 +5,8 @@ use Prim.Native.Nat.{ℕ, _*_, _≤_}
 use lib.ListN.{length}
 use lib.Ieee.{Float}
 use Rattle.refusal.specs.Said.{Said, accepted, refused}
+use Rattle.refusal.specs.One.{One}
+use Rattle.refusal.proofs.Unique.{one-read}
 use Rattle.refusal.specs.declared.Refusal.{Refusal}
 use Rattle.refusal.specs.declared.Verdict.{Verdict}
 use Rattle.refusal.specs.declared.Verdict.the-variants.{Accepted, Refused}
@@ -28,9 +30,7 @@ module _ (v : Verdict) (more : List ℕ) (ss : List (List Vector)) (op : List Fl
   unfolding leftBy laid
   accept q z e hp hs = rw z (ap (wrote more) (all-laid points-lie op os ss q e hp hs))
 
--- what two permitted outcomes have in common is all: for an answer that is told by what is said of it
-pub one-left : {A : Type 0} (said : A → Said ℕ) → ((r t : A) → said r ≡ said t → r ≡ t) → {l : Left} (r t : A) {a b : List Float} {d e : List ℕ}
-    → left (said r) a d ≡ l → left (said t) b e ≡ l → (r ≡ t) × (a ≡ b) × (d ≡ e)
-one-left said told r t f g =
-    let h = f ∙ sym g in
-    (told r t (ap (λ (x : Left). x .answer) h), ap (λ (x : Left). x .points) h, ap (λ (x : Left). x .starts) h)
+-- a call on points permits one outcome, its answer being told by what is said of it
+pub one-left : {A : Type 0} (said : A → Said ℕ) → ((r t : A) → said r ≡ said t → r ≡ t) → (l : Left) → One (A × List Float × List ℕ) (λ o. left (said (o .0)) (o .1) (o .2) ≡ l)
+one-left said told =
+    one-read (λ o. left (said (o .0)) (o .1) (o .2)) (λ r t e. let a = told (r .0) (t .0) (ap (λ (x : Left). x .answer) e) in λ i. (a i, e i .points, e i .starts))

@@ -3,6 +3,7 @@ use mathlib.Core.Path.{_≡_, sym, ap}
 use mathlib.Core.List.{List}
 use Prim.Native.Nat.{ℕ}
 use lib.Ieee.{Float}
+use Rattle.refusal.specs.One.{One}
 use Rattle.refusal.proofs.Unique.{one-refusal, never-both, same-values}
 use Rattle.vector.specs.declared.matrix.Matrix.{Matrix}
 use Rattle.path.specs.Left.{left}
@@ -17,7 +18,6 @@ adapted-told (A.Wrote p s d) (A.Refused t) h = absurd (never-both _ t h)
 adapted-told (A.Refused r) (A.Wrote q u e) h = absurd (never-both _ r (sym h))
 adapted-told (A.Refused r) (A.Refused t) h = ap A.Refused (one-refusal r t h)
 
-pub one-chop-adaptive : (ps : List Float) (ss : List ℕ) (m : Matrix) (width height step tolerance : Float) (op : List Float) (os : List ℕ) (r t : Adapted)
-    {a b : List Float} {d e : List ℕ} → left (said r) a d ≡ adaptiveLeft ps ss m width height step tolerance op os
-    → left (said t) b e ≡ adaptiveLeft ps ss m width height step tolerance op os → (r ≡ t) × (a ≡ b) × (d ≡ e)
-one-chop-adaptive ps ss m width height step tolerance op os r t = one-left said adapted-told r t
+pub one-chop-adaptive : (ps : List Float) (ss : List ℕ) (m : Matrix) (width height step tolerance : Float) (op : List Float) (os : List ℕ)
+    → One (Adapted × List Float × List ℕ) (λ o. left (said (o .0)) (o .1) (o .2) ≡ adaptiveLeft ps ss m width height step tolerance op os)
+one-chop-adaptive ps ss m width height step tolerance op os = one-left said adapted-told (adaptiveLeft ps ss m width height step tolerance op os)

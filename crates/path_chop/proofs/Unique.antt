@@ -3,6 +3,7 @@ use mathlib.Core.Path.{_≡_, sym, ap}
 use mathlib.Core.List.{List}
 use Prim.Native.Nat.{ℕ}
 use lib.Ieee.{Float}
+use Rattle.refusal.specs.One.{One}
 use Rattle.refusal.proofs.Unique.{one-refusal, never-both, same-values}
 use Rattle.path.specs.Left.{left}
 use Rattle.path.proofs.Lefts.{one-left}
@@ -16,6 +17,6 @@ chopped-told (C.Wrote p s) (C.Refused t) e = absurd (never-both _ t e)
 chopped-told (C.Refused r) (C.Wrote q u) e = absurd (never-both _ r (sym e))
 chopped-told (C.Refused r) (C.Refused t) e = ap C.Refused (one-refusal r t e)
 
-pub one-chop : (ps : List Float) (ss : List ℕ) (step : Float) (op : List Float) (os : List ℕ) (r t : Chopped) {a b : List Float} {d e : List ℕ}
-    → left (said r) a d ≡ chopLeft ps ss step op os → left (said t) b e ≡ chopLeft ps ss step op os → (r ≡ t) × (a ≡ b) × (d ≡ e)
-one-chop ps ss step op os r t = one-left said chopped-told r t
+pub one-chop : (ps : List Float) (ss : List ℕ) (step : Float) (op : List Float) (os : List ℕ)
+    → One (Chopped × List Float × List ℕ) (λ o. left (said (o .0)) (o .1) (o .2) ≡ chopLeft ps ss step op os)
+one-chop ps ss step op os = one-left said chopped-told (chopLeft ps ss step op os)

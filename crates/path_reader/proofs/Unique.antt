@@ -2,16 +2,25 @@
 use mathlib.Core.Path.{_≡_, sym, _∙_}
 use mathlib.Core.List.{List}
 use Prim.Native.Nat.{ℕ}
-use denote.Ref.{RefT, now}
+use denote.Ref.{RefT, now, ptr}
+use Rattle.refusal.specs.One.{One}
 use Rattle.path_reader.specs.declared.Reader.{Reader}
 use Rattle.path_reader.specs.Reading.{Own}
 
-pub one-part : (points : RefT (List ℕ)) (ss : List ℕ) (i : ℕ) (r t : RefT (List ℕ)) → Own points ss i r → Own points ss i t → (now r ≡ now t) × (r .ptr .0 ≡ t .ptr .0) × (r .ptr .1 ≡ t .ptr .1)
-one-part points ss i r t p q = (p .holds ∙ sym (q .holds), p .block ∙ sym (q .block), p .place ∙ sym (q .place))
+-- what a program can tell of a part: what it holds, and where it lies
+abbrev told : RefT (List ℕ) → List ℕ × ℕ × ℕ
+told part = (now part, part .ptr .0, part .ptr .1)
+
+pub one-part : (points : RefT (List ℕ)) (ss : List ℕ) (i : ℕ) → One (List ℕ × ℕ × ℕ) (λ o. (part : RefT (List ℕ)) × (told part ≡ o) × Own points ss i part)
+one-part points ss i o u p q =
+    let holds : now (p .0) ≡ now (q .0) = p .2 .holds ∙ sym (q .2 .holds) in
+    let block : p .0 .ptr .0 ≡ q .0 .ptr .0 = p .2 .block ∙ sym (q .2 .block) in
+    let place : p .0 .ptr .1 ≡ q .0 .ptr .1 = p .2 .place ∙ sym (q .2 .place) in
+    sym (p .1) ∙ (λ j. (holds j, block j, place j)) ∙ q .1
 
 -- for `new` and `rest`, which say each field
-pub one-reader : (r t : Reader) (points starts : RefT (List ℕ)) (at : ℕ) → (r .points ≡ points) × (r .starts ≡ starts) × (r .at ≡ at) → (t .points ≡ points) × (t .starts ≡ starts) × (t .at ≡ at) → r ≡ t
-one-reader r t points starts at p q =
+pub one-reader : (points starts : RefT (List ℕ)) (at : ℕ) → One Reader (λ r. (r .points ≡ points) × (r .starts ≡ starts) × (r .at ≡ at))
+one-reader points starts at r t p q =
     let a : r .points ≡ t .points = p .0 ∙ sym (q .0) in
     let b : r .starts ≡ t .starts = p .1 ∙ sym (q .1) in
     let d : r .at ≡ t .at = p .2 ∙ sym (q .2) in

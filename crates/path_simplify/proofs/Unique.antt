@@ -3,6 +3,7 @@ use mathlib.Core.Path.{_≡_, sym, ap}
 use mathlib.Core.List.{List}
 use Prim.Native.Nat.{ℕ}
 use lib.Ieee.{Float}
+use Rattle.refusal.specs.One.{One}
 use Rattle.refusal.proofs.Unique.{one-refusal, never-both, same-values}
 use Rattle.path.specs.Left.{left}
 use Rattle.path.proofs.Lefts.{one-left}
@@ -16,6 +17,6 @@ simplified-told (S.Wrote p s d) (S.Refused t) h = absurd (never-both _ t h)
 simplified-told (S.Refused r) (S.Wrote q u e) h = absurd (never-both _ r (sym h))
 simplified-told (S.Refused r) (S.Refused t) h = ap S.Refused (one-refusal r t h)
 
-pub one-simplify : (ps : List Float) (ss : List ℕ) (threshold : Float) (op : List Float) (os : List ℕ) (r t : Simplified) {a b : List Float} {d e : List ℕ}
-    → left (said r) a d ≡ simplifyLeft ps ss threshold op os → left (said t) b e ≡ simplifyLeft ps ss threshold op os → (r ≡ t) × (a ≡ b) × (d ≡ e)
-one-simplify ps ss threshold op os r t = one-left said simplified-told r t
+pub one-simplify : (ps : List Float) (ss : List ℕ) (threshold : Float) (op : List Float) (os : List ℕ)
+    → One (Simplified × List Float × List ℕ) (λ o. left (said (o .0)) (o .1) (o .2) ≡ simplifyLeft ps ss threshold op os)
+one-simplify ps ss threshold op os = one-left said simplified-told (simplifyLeft ps ss threshold op os)

@@ -1,12 +1,12 @@
--- The answer is one: any two answers that the contract permits are equal, and so is all that is lent.
--- Assumes nothing.
-use mathlib.Core.Path.{_≡_, sym, ap, _∙_}
+-- What the contract of `splice` permits is one outcome: the answer, scratch, points and starts; and so that of `splice_pairs`.
+use mathlib.Core.Path.{_≡_, sym, ap}
 use mathlib.Core.List.{List, [], _∷_}
 use Prim.Native.Nat.{ℕ}
 use lib.ListN.{getD}
-use Rattle.refusal.specs.Said.{accepted}
+use Rattle.refusal.specs.Said.{Said, accepted}
 use Rattle.path.specs.declared.Place.{Place}
-use Rattle.refusal.proofs.Unique.{one-refusal, never-both, same-values}
+use Rattle.refusal.specs.One.{One}
+use Rattle.refusal.proofs.Unique.{one-refusal, never-both, same-values, one-read}
 use Rattle.path_splice.specs.declared.Spliced.{Spliced}
 use Rattle.path_splice.specs.declared.Spliced.the-variants.{Wrote, Refused}
 use Rattle.path_splice.specs.Lent.{said, Left, left}
@@ -17,25 +17,23 @@ same-counts p q p′ q′ e =
     let b : q ≡ q′ = cc in
     cc
 
-pub one-saying : (r t : Spliced) → said r ≡ said t → r ≡ t
-one-saying (Wrote p q) (Wrote p′ q′) e = same-counts p q p′ q′ (same-values e)
-one-saying (Wrote p q) (Refused t) e = absurd (never-both (p ∷ q ∷ []) t e)
-one-saying (Refused r) (Wrote p q) e = absurd (never-both (p ∷ q ∷ []) r (sym e))
-one-saying (Refused r) (Refused t) e = ap Refused (one-refusal r t e)
+told : (r t : Spliced) → said r ≡ said t → r ≡ t
+told (Wrote p q) (Wrote p′ q′) e = same-counts p q p′ q′ (same-values e)
+told (Wrote p q) (Refused t) e = absurd (never-both (p ∷ q ∷ []) t e)
+told (Refused r) (Wrote p q) e = absurd (never-both (p ∷ q ∷ []) r (sym e))
+told (Refused r) (Refused t) e = ap Refused (one-refusal r t e)
 
-pub one-answer : (r t : Spliced) (s s′ op op′ os os′ : List ℕ) (x : Left) → left (said r) s op os ≡ x → left (said t) s′ op′ os′ ≡ x → (r ≡ t) × (s ≡ s′) × (op ≡ op′) × (os ≡ os′)
-one-answer r t s s′ op op′ os os′ x p q =
-    let e = p ∙ sym q in
-    (one-saying r t (ap (λ (l : Left). l .answer) e), ap (λ (l : Left). l .scratch) e, ap (λ (l : Left). l .points) e, ap (λ (l : Left). l .starts) e)
+pub one-splice : (x : Left) → One (Spliced × List ℕ × List ℕ × List ℕ) (λ o. left (said (o .0)) (o .1) (o .2) (o .3) ≡ x)
+one-splice = one-read (λ o. left (said (o .0)) (o .1) (o .2) (o .3)) (λ r t e. let a = told (r .0) (t .0) (ap (λ (l : Left). l .answer) e) in λ i. (a i, e i .scratch, e i .points, e i .starts))
 
-same-place : (r t : Place) → accepted (r .points ∷ r .starts ∷ []) ≡ accepted (t .points ∷ t .starts ∷ []) → r ≡ t
+-- the same of strokes of two points, whose answer is a place
+abbrev placed : Place → Said ℕ
+placed r = accepted (r .points ∷ r .starts ∷ [])
+
+same-place : (r t : Place) → placed r ≡ placed t → r ≡ t
 same-place r t e =
     let v : _≡_ {A = List ℕ} (r .points ∷ r .starts ∷ []) (t .points ∷ t .starts ∷ []) = same-values e in
     λ i. record { points = getD (v i) 0 0; starts = getD (v i) 1 0 }
 
--- the same of strokes of two points
-pub one-place : (r t : Place) (s s′ op op′ os os′ : List ℕ) (x : Left) → left (accepted (r .points ∷ r .starts ∷ [])) s op os ≡ x → left (accepted (t .points ∷ t .starts ∷ [])) s′ op′ os′ ≡ x
-    → (r ≡ t) × (s ≡ s′) × (op ≡ op′) × (os ≡ os′)
-one-place r t s s′ op op′ os os′ x p q =
-    let e = p ∙ sym q in
-    (same-place r t (ap (λ (l : Left). l .answer) e), ap (λ (l : Left). l .scratch) e, ap (λ (l : Left). l .points) e, ap (λ (l : Left). l .starts) e)
+pub one-pairs : (x : Left) → One (Place × List ℕ × List ℕ × List ℕ) (λ o. left (placed (o .0)) (o .1) (o .2) (o .3) ≡ x)
+one-pairs = one-read (λ o. left (placed (o .0)) (o .1) (o .2) (o .3)) (λ r t e. let a = same-place (r .0) (t .0) (ap (λ (l : Left). l .answer) e) in λ i. (a i, e i .scratch, e i .points, e i .starts))

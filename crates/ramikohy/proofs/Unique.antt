@@ -1,26 +1,22 @@
--- Any two answers that a contract permits are equal: the status, the value, and each number of an array that holds a point.
-use mathlib.Core.Path.{_≡_, refl, sym, ap, _∙_}
+-- What the contract of each C function permits is one outcome: the status, and every element of what is lent.
+use mathlib.Core.Path.{_≡_, sym, ap, _∙_}
 use mathlib.Core.List.{List, [], _∷_}
 use Prim.Native.Nat.{ℕ}
 use native.Mathlib.Omega.{arith}
 use lib.ListN.{length}
 use lib.Ieee.{Float}
+use Rattle.refusal.specs.One.{One}
+use Rattle.refusal.proofs.Unique.{one-read}
 use Rattle.vector.specs.declared.Vector.{Vector}
 use Rattle.ramikohy.specs.Points.{pointOf}
 use Rattle.ramikohy.specs.Status.{Left, left}
-
-module _ {A : Type 0} {said : Left A} {r r′ : ℕ} {v v′ : A} (one : left r v ≡ said) (two : left r′ v′ ≡ said) where
-  pub same-status : r ≡ r′
-  same-status = ap (λ (l : Left A). l .status) (one ∙ sym two)
-
-  pub same-value : v ≡ v′
-  same-value = ap (λ (l : Left A). l .value) (one ∙ sym two)
+use Rattle.ramikohy.specs.Calls.{Strokes, strokes, Splice, splice, Weld, weld, Draw, draw, Writing, writing, Reading, reading}
 
 no : {A : Type 0} → ⊥ → A
 no = elim [ ]
 
 -- an array of three has three numbers, and its point has them all
-pub same-point : (l m : List Float) → length l ≡ 3 → length m ≡ 3 → pointOf l ≡ pointOf m → l ≡ m
+same-point : (l m : List Float) → length l ≡ 3 → length m ≡ 3 → pointOf l ≡ pointOf m → l ≡ m
 same-point (a ∷ b ∷ c ∷ []) (x ∷ y ∷ z ∷ []) e f p =
     let first : a ≡ x = ap (λ (v : Vector). v .x) p in
     let second : b ≡ y = ap (λ (v : Vector). v .y) p in
@@ -34,3 +30,37 @@ same-point (a ∷ b ∷ c ∷ []) [] e f p = no (omega arith)
 same-point (a ∷ b ∷ c ∷ []) (x ∷ []) e f p = no (omega arith)
 same-point (a ∷ b ∷ c ∷ []) (x ∷ y ∷ []) e f p = no (omega arith)
 same-point (a ∷ b ∷ c ∷ []) (x ∷ y ∷ z ∷ w ∷ rest) e f p = no (omega arith)
+
+-- cross, add, sub, mul, div, the four with a scalar, mul_position_w: an array of three is fixed by its point
+pub one-point : (v : Vector) → One (List Float) (λ l. (length l ≡ 3) × (pointOf l ≡ v))
+one-point v l m p q = same-point l m (p .0) (q .0) (p .1 ∙ sym (q .1))
+
+-- normalize: a status and an array of three
+pub one-normalize : (x : Left Vector) → One (ℕ × List Float) (λ o. (length (o .1) ≡ 3) × (left (o .0) (pointOf (o .1)) ≡ x))
+one-normalize x r t p q =
+    let e = p .1 ∙ sym (q .1) in
+    let a = same-point (r .1) (t .1) (p .0) (q .0) (ap (λ (l : Left Vector). l .value) e) in
+    λ i. (e i .status, a i)
+
+-- floor and sqrt: a status and a value
+pub one-value : {A : Type 0} (x : Left A) → One (ℕ × A) (λ o. left (o .0) (o .1) ≡ x)
+one-value = one-read (λ o. left (o .0) (o .1)) (λ r t e i. (e i .status, e i .value))
+
+-- chop, chop_adaptive, simplify, section
+pub one-strokes : (x : Strokes) → One (ℕ × List ℕ × List Float × List ℕ) (λ o. strokes (o .0) (o .1) (o .2) (o .3) ≡ x)
+one-strokes = one-read (λ o. strokes (o .0) (o .1) (o .2) (o .3)) (λ r t e i. (e i .status, e i .counts, e i .points, e i .starts))
+
+pub one-splice : (x : Splice) → One (ℕ × List ℕ × List ℕ × List ℕ × List ℕ) (λ o. splice (o .0) (o .1) (o .2) (o .3) (o .4) ≡ x)
+one-splice = one-read (λ o. splice (o .0) (o .1) (o .2) (o .3) (o .4)) (λ r t e i. (e i .status, e i .counts, e i .scratch, e i .points, e i .starts))
+
+pub one-weld : (x : Weld) → One (ℕ × List ℕ × List ℕ × List Float × List ℕ) (λ o. weld (o .0) (o .1) (o .2) (o .3) (o .4) ≡ x)
+one-weld = one-read (λ o. weld (o .0) (o .1) (o .2) (o .3) (o .4)) (λ r t e i. (e i .status, e i .counts, e i .scratch, e i .vertices, e i .indices))
+
+pub one-draw : (x : Draw) → One (ℕ × List ℕ × List ℕ × List Float × List ℕ × List ℕ) (λ o. draw (o .0) (o .1) (o .2) (o .3) (o .4) (o .5) ≡ x)
+one-draw = one-read (λ o. draw (o .0) (o .1) (o .2) (o .3) (o .4) (o .5)) (λ r t e i. (e i .status, e i .counts, e i .scratch, e i .seen, e i .points, e i .starts))
+
+pub one-writing : (x : Writing) → One (ℕ × List ℕ × List ℕ) (λ o. writing (o .0) (o .1) (o .2) ≡ x)
+one-writing = one-read (λ o. writing (o .0) (o .1) (o .2)) (λ r t e i. (e i .status, e i .counts, e i .bytes))
+
+pub one-reading : (x : Reading) → One (ℕ × List ℕ × List ℕ × List ℕ) (λ o. reading (o .0) (o .1) (o .2) (o .3) ≡ x)
+one-reading = one-read (λ o. reading (o .0) (o .1) (o .2) (o .3)) (λ r t e i. (e i .status, e i .counts, e i .numbers, e i .starts))

@@ -1,4 +1,4 @@
--- Each refusal has a number of its own, and what is said of an answer tells it.
+-- Each refusal has a number of its own, and what is said of an answer tells it; the two ways in which a contract permits one outcome.
 use mathlib.Core.Path.{_≡_, refl, sym, ap, _∙_}
 use mathlib.Core.List.{List, [], _∷_}
 use Prim.Native.Nat.{ℕ, zero, suc, _-_}
@@ -8,6 +8,15 @@ use Rattle.refusal.specs.declared.Refusal.{Refusal}
 use Rattle.refusal.specs.declared.Refusal.the-variants.{Shape, Count, Vertex, Number, Scratch, Room, Flat, Deep, Sheet}
 use Rattle.refusal.specs.Refusals.{numberOf}
 use Rattle.refusal.specs.Said.{Said, accepted, refused}
+use Rattle.refusal.specs.One.{One}
+
+-- a contract of the form `r ≡ d`
+pub one-answer : {A : Type 0} (d : A) → One A (λ r. r ≡ d)
+one-answer d r t p q = p ∙ sym q
+
+-- a contract that fixes what is read of an outcome, where the reading tells outcomes apart
+pub one-read : {A X : Type 0} (read : A → X) → ((r t : A) → read r ≡ read t → r ≡ t) → (x : X) → One A (λ r. read r ≡ x)
+one-read read told x r t p q = told r t (p ∙ sym q)
 
 -- the refusal of a number
 abbrev numbered : ℕ → Refusal

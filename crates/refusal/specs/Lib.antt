@@ -1,3 +1,4 @@
 pub mod Refusals
 pub mod Said
 pub mod Limits
+pub mod One

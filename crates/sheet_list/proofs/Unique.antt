@@ -1,12 +1,12 @@
 -- What the contract of `list` permits is one answer and one content of the bytes lent.
-use mathlib.Core.Path.{_≡_, sym, ap, _∙_}
+use mathlib.Core.Path.{_≡_}
 use mathlib.Core.List.{List}
 use Prim.Native.Nat.{ℕ}
 use lib.Seq.{sets}
+use Rattle.refusal.specs.One.{One}
+use Rattle.refusal.proofs.Unique.{one-read}
 use Rattle.path.specs.Laid.{Pen, pen, inked}
 use Rattle.sheet_list.specs.Listing.{textOf}
 
-pub one-text : (bs out out₁ out₂ : List ℕ) (r t : ℕ) → pen out₁ r ≡ inked sets (pen out 0) (textOf bs) → pen out₂ t ≡ inked sets (pen out 0) (textOf bs) → (r ≡ t) × (out₁ ≡ out₂)
-one-text bs out out₁ out₂ r t e f =
-    let h = e ∙ sym f in
-    (ap (λ (p : Pen ℕ). p .at) h, ap (λ (p : Pen ℕ). p .buf) h)
+pub one-text : (bs out : List ℕ) → One (ℕ × List ℕ) (λ o. pen (o .1) (o .0) ≡ inked sets (pen out 0) (textOf bs))
+one-text bs out = one-read (λ o. pen (o .1) (o .0)) (λ r t e i. (e i .at, e i .buf)) (inked sets (pen out 0) (textOf bs))

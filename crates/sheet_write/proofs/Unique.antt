@@ -1,8 +1,9 @@
 -- What the contract of `write_sheet` permits is one answer and one content of the bytes lent.
-use mathlib.Core.Path.{_≡_, sym, ap, _∙_}
+use mathlib.Core.Path.{_≡_, sym, ap}
 use mathlib.Core.List.{List}
 use Prim.Native.Nat.{ℕ}
-use Rattle.refusal.proofs.Unique.{one-refusal, never-both, same-values}
+use Rattle.refusal.specs.One.{One}
+use Rattle.refusal.proofs.Unique.{one-refusal, never-both, same-values, one-read}
 use Rattle.sheet_write.specs.declared.SheetWritten.{SheetWritten}
 use Rattle.sheet_write.specs.declared.SheetWritten.the-variants.{Wrote, Refused}
 use Rattle.sheet_write.specs.Write.{said, Left, left, writeLeft}
@@ -13,8 +14,6 @@ told (Wrote n) (Refused t) e = absurd (never-both _ t e)
 told (Refused r) (Wrote m) e = absurd (never-both _ r (sym e))
 told (Refused r) (Refused t) e = ap Refused (one-refusal r t e)
 
-pub one-write : (mode vertices : ℕ) (ns ss out : List ℕ) (r t : SheetWritten) (out₁ out₂ : List ℕ)
-    → left (said r) out₁ ≡ writeLeft mode vertices ns ss out → left (said t) out₂ ≡ writeLeft mode vertices ns ss out → (r ≡ t) × (out₁ ≡ out₂)
-one-write mode vertices ns ss out r t out₁ out₂ e f =
-    let h = e ∙ sym f in
-    (told r t (ap (λ (x : Left). x .answer) h), ap (λ (x : Left). x .bytes) h)
+pub one-write-sheet : (mode vertices : ℕ) (ns ss out : List ℕ) → One (SheetWritten × List ℕ) (λ o. left (said (o .0)) (o .1) ≡ writeLeft mode vertices ns ss out)
+one-write-sheet mode vertices ns ss out =
+    one-read (λ o. left (said (o .0)) (o .1)) (λ r t e. let a = told (r .0) (t .0) (ap (λ (l : Left). l .answer) e) in λ i. (a i, e i .bytes)) (writeLeft mode vertices ns ss out)

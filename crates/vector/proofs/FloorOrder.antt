@@ -14,6 +14,7 @@ use lib.Ieee.{Float, nan, inf, fin, up, down}
 use lib.Ieee.Bits.{is-true, is-false}
 use lib.Ieee.Fits.{down-pos}
 use Rattle.refusal.specs.Said.{Said, accepted, refused}
+use Rattle.refusal.specs.One.{One}
 use Rattle.vector.specs.Floor.{floorOf, wholeBelow, signed, Greatest, FloorOf}
 use Rattle.vector.proofs.Floors.{whole, floor-is, none-left, some-left, quot-high}
 use Rattle.vector.proofs.Roots.{lt-or-ge}
@@ -115,7 +116,7 @@ is-greatest true a d (negsuc k) D g =
     let h = neg-lt-back a (k * d) (rw (neg-next k, neg-times k d) at (g .next-above .lt)) in
     rw (some-left k a d h (omega (arith, suc-mul k d)))
 
-pub one-floor : (x : Float) (r t : Said ℤ) → FloorOf x r → FloorOf x t → r ≡ t
+pub one-floor : (x : Float) → One (Said ℤ) (FloorOf x)
 unfolding FloorOf
 one-floor nan r t p q = p ∙ sym q
 one-floor (inf s) r t p q = p ∙ sym q

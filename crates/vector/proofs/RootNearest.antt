@@ -13,6 +13,7 @@ use lib.Ieee.{Float, nan, inf, fin, binary64, fits, ofBits, size, toBits}
 use lib.Ieee.Bits.{ofBits-toBits}
 use lib.Ieee.Digits.{size-lt, size-le, size-reaches}
 use Rattle.refusal.specs.Said.{Said, accepted}
+use Rattle.refusal.specs.One.{One}
 use Rattle.vector.specs.Root.{unitsOf, plain, greatest, rootOf, Nearest, RootOf}
 use Rattle.vector.specs.Steps.{at, Digits, Normal, NearestUnits}
 use Rattle.vector.proofs.Roots.{lt-or-ge, shift-to, normal, at-low, by-even, by-odd}
@@ -86,7 +87,7 @@ same-units y z f p g q e =
     ∙ ap (ofBits binary64) (by-units y p ∙ ap (λ (n : ℕ). 0 + (size n - 53) * 2 ^ 52 + n / 2 ^ (size n - 53)) e ∙ sym (by-units z q))
     ∙ ofBits-toBits binary64 z g
 
-pub one-nearest : (x y z : Float) → Nearest x y → Nearest x z → y ≡ z
+pub one-nearest : (x : Float) → One Float (Nearest x)
 one-nearest x y z p q =
     ⊎-elim (λ l. absurd (clash x y z p q l))
     (λ g. ⊎-elim (λ e. same-units y z (p .format) (p .sign) (q .format) (q .sign) (sym e)) (λ l. absurd (clash x z y q p l)) (eq-or-lt-of-le g))
@@ -109,7 +110,7 @@ rootOf-nearest (fin false (suc m) e) h =
     unfold RootOf in (ofBits binary64 (r .0), sym (worked x (r .0) h (above m e) (r .1 .1)), nearest m e (r .0) h (r .1 .0) (r .1 .1))
 
 -- the statement leaves one answer
-pub one-root : (x : Float) (r t : Said Float) → RootOf x r → RootOf x t → r ≡ t
+pub one-root : (x : Float) → One (Said Float) (RootOf x)
 unfolding RootOf
 one-root nan r t p q = p ∙ sym q
 one-root (inf true) r t p q = p ∙ sym q

@@ -1,10 +1,11 @@
--- What a contract permits is one answer. A contract of the form `r ≡ d` permits d alone; the three answers that are enums are told by what is said of them.
-use mathlib.Core.Path.{_≡_, refl, sym, ap, _∙_}
+-- What a contract permits is one answer: `one-answer` (refusal) where it is of the form `r ≡ d`; the three answers that are enums are told by what is said of them.
+use mathlib.Core.Path.{_≡_, refl, sym, ap}
 use mathlib.Core.List.{List, [], _∷_}
 use native.Mathlib.Omega.{arith}
 use Prim.Native.Nat.{ℕ}
 use lib.Ieee.{Float}
-use Rattle.refusal.proofs.Unique.{one-refusal, never-both, same-values}
+use Rattle.refusal.specs.One.{One}
+use Rattle.refusal.proofs.Unique.{one-refusal, never-both, same-values, one-read}
 use Rattle.vector.specs.declared.Vector.{Vector}
 use Rattle.vector.specs.declared.Unit.{Unit}
 use Rattle.vector.specs.declared.Unit.the-variants as U
@@ -16,10 +17,6 @@ use Rattle.vector.specs.Answers.{wholeSaid, rootSaid, unitSaid}
 use Rattle.vector.specs.Floor.{floorOf}
 use Rattle.vector.specs.Root.{rootOf}
 use Rattle.vector.specs.Lengths.{unitOf}
-
--- new, length, distance, length_squared, distance_squared, dot, cross, add, sub, mul, div, the four with a scalar, segment_distance, mul_position_w, abs
-pub one-answer : {A : Type 0} {d r t : A} → r ≡ d → t ≡ d → r ≡ t
-one-answer p q = p ∙ sym q
 
 whole-told : (r t : Whole) → wholeSaid r ≡ wholeSaid t → r ≡ t
 whole-told (W.Of y) (W.Of z) e = let h = same-values e in cc
@@ -39,11 +36,11 @@ unit-told (U.Of v) U.Nothing e = let h = same-values e in let z : _≡_ {A = ℕ
 unit-told U.Nothing (U.Of w) e = let h = same-values e in let z : _≡_ {A = ℕ} 0 1 = cc in absurd (omega arith)
 unit-told U.Nothing U.Nothing e = refl
 
-pub one-floor : (x : Float) (r t : Whole) → wholeSaid r ≡ floorOf x → wholeSaid t ≡ floorOf x → r ≡ t
-one-floor x r t p q = whole-told r t (p ∙ sym q)
+pub one-floor : (x : Float) → One Whole (λ r. wholeSaid r ≡ floorOf x)
+one-floor x = one-read wholeSaid whole-told (floorOf x)
 
-pub one-sqrt : (x : Float) (r t : Root) → rootSaid r ≡ rootOf x → rootSaid t ≡ rootOf x → r ≡ t
-one-sqrt x r t p q = root-told r t (p ∙ sym q)
+pub one-sqrt : (x : Float) → One Root (λ r. rootSaid r ≡ rootOf x)
+one-sqrt x = one-read rootSaid root-told (rootOf x)
 
-pub one-normalize : (v : Vector) (r t : Unit) → unitSaid r ≡ unitOf v → unitSaid t ≡ unitOf v → r ≡ t
-one-normalize v r t p q = unit-told r t (p ∙ sym q)
+pub one-normalize : (v : Vector) → One Unit (λ r. unitSaid r ≡ unitOf v)
+one-normalize v = one-read unitSaid unit-told (unitOf v)
