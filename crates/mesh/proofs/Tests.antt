@@ -1,24 +1,67 @@
 -- Laws of the tests of a mesh.
-use mathlib.Core.Path.{_≡_}
-use mathlib.Core.Bool.{true, false}
-use mathlib.Core.List.{List}
-use Prim.Native.Nat.{ℕ, _+_, _≤_, _<_}
+use mathlib.Core.Path.{_≡_, refl, sym, ap, _∙_}
+use mathlib.Core.Bool.{Bool, true, false, _&&_}
+use mathlib.Core.List.{List, [], _∷_}
+use mathlib.Core.Logic.{⊎-elim}
+use Prim.Native.Nat.{ℕ, zero, suc, _+_, _*_, _/_, _≤_, _<_}
 use native.Mathlib.Numerals.{add-one}
+use native.Mathlib.Omega.{arith}
+use lib.Dec.{eqb, leb, ltb}
 use lib.ListN.{length, getD, drop, drop-of-length-le}
 use lib.Seq.{drop-cons}
-use borrow.Author.Tests.{le-ltb, lt-ltb}
-use Rattle.mesh.specs.Meshes.{allBelow}
+use borrow.Author.Tests.{le-ltb, lt-ltb, ltb-true, leb-true, ne-eqb}
+use Rattle.path.proofs.Tests.{both, split}
+use Rattle.mesh.specs.Meshes.{allBelow, reachOf}
 
--- the indices from place i on
-module _ (n : ℕ) (is : List ℕ) (i : ℕ) where
-  pub below-more : i < length is → getD is i 0 < n → allBelow n (drop (i + 1) is) ≡ allBelow n (drop i is)
-  unfolding allBelow
-  below-more h l = rw (drop-cons is i 0 h, lt-ltb (getD is i 0) n l, add-one)
+and-false : (b : Bool) → (b && false) ≡ false
+and-false true = refl
+and-false false = refl
 
-  pub below-not : i < length is → n ≤ getD is i 0 → allBelow n (drop i is) ≡ false
-  unfolding allBelow
-  below-not h l = rw (drop-cons is i 0 h, le-ltb (getD is i 0) n l)
+and-true : (b : Bool) → (b && true) ≡ b
+and-true true = refl
+and-true false = refl
 
-  pub below-all : length is ≤ i → allBelow n (drop i is) ≡ true
+and-assoc : (a b c : Bool) → (a && (b && c)) ≡ ((a && b) && c)
+and-assoc true b c = refl
+and-assoc false b c = refl
+
+-- the larger of two numbers is below n exactly if both are
+module _ (a b n : ℕ) where
+  pub second-told : a ≤ b → ltb b n ≡ (ltb a n && ltb b n)
+  second-told h = ⊎-elim (λ g. rw (le-ltb b n g) (sym (and-false (ltb a n)))) (λ l. rw (lt-ltb a n (omega arith), lt-ltb b n l)) (split n b)
+
+  pub first-told : b ≤ a → ltb a n ≡ (ltb a n && ltb b n)
+  first-told h = ⊎-elim (λ g. rw (le-ltb a n g)) (λ l. rw (lt-ltb a n l, lt-ltb b n (omega arith))) (split n a)
+
+-- the largest so far, m, and the indices from place i on
+module _ (n : ℕ) (is : List ℕ) (i m : ℕ) where
+  pub compared : i < length is → (r : ℕ) → ltb r n ≡ (ltb m n && ltb (getD is i 0) n) → (ltb m n && allBelow n (drop i is)) ≡ (ltb r n && allBelow n (drop (i + 1) is))
   unfolding allBelow
-  below-all h = rw (drop-of-length-le is h)
+  compared h r e = rw (drop-cons is i 0 h, add-one, e) (and-assoc (ltb m n) (ltb (getD is i 0) n) _)
+
+  pub no-more : length is ≤ i → (ltb m n && allBelow n (drop i is)) ≡ ltb m n
+  unfolding allBelow
+  no-more h = rw (drop-of-length-le is h) (and-true (ltb m n))
+
+-- of no vertices there is no index
+pub none-below : (is : List ℕ) → eqb (length is) 0 ≡ allBelow 0 is
+unfolding allBelow
+none-below [] = refl
+none-below (i ∷ is) = rw (ne-eqb (suc (length is)) 0 (λ e. omega arith), le-ltb i 0 (omega arith))
+
+-- an index that is there is that of a vertex
+pub index-below : (v : ℕ) (is : List ℕ) (k : ℕ) → allBelow v is ≡ true → k < length is → getD is k 0 < v
+unfolding allBelow
+index-below v [] k h l = absurd (omega arith)
+index-below v (i ∷ is) zero h l = ltb-true i v (both (ltb i v) (allBelow v is) h .0)
+index-below v (i ∷ is) (suc k) h l = index-below v is k (both (ltb i v) (allBelow v is) h .1) (omega arith)
+
+-- the corners of faces within reach
+module _ (v : ℕ) (is : List ℕ) (n k : ℕ) (h : reachOf v is n ≡ true) (l : k < n * 3) where
+  pub corner-there : k < length is
+  unfolding reachOf
+  corner-there = omega (arith, leb-true (n * 3) (length is) (both (leb (n * 3) (length is)) (allBelow v is) h .0))
+
+  pub vertex-there : getD is k 0 < v
+  unfolding reachOf
+  vertex-there = index-below v is k (both (leb (n * 3) (length is)) (allBelow v is) h .1) corner-there

@@ -2,12 +2,11 @@
 use mathlib.Core.Bool.{Bool, true, _&&_}
 use mathlib.Core.List.{List, [], _∷_}
 use Prim.Native.Nat.{ℕ, _+_, _*_, _/_, _%_}
-use lib.ListN.{getD}
+use lib.ListN.{length, getD}
 use lib.Dec.{leb, ltb, eqb}
-use lib.Ieee.{Float, lt}
+use lib.Ieee.{Float}
 use Rattle.refusal.specs.Limits.{mostFaces, mostVertices}
 use Rattle.vector.specs.declared.Vector.{Vector}
-use Rattle.vector.specs.Lengths.{zero64, one64}
 use Rattle.path.specs.Strokes.{pointAt}
 use Rattle.path.specs.Tests.{coordinateGood}
 use Rattle.mesh.specs.declared.Triangle.{Triangle}
@@ -31,9 +30,9 @@ unfoldable pub allBelow : ℕ → List ℕ → Bool
 allBelow n [] = true
 allBelow n (i ∷ is) = ltb i n && allBelow n is
 
+-- the first n faces are there, and with v vertices all their corners
+unfoldable pub reachOf : ℕ → List ℕ → ℕ → Bool
+reachOf v is n = leb (n * 3) (length is) && allBelow v is
+
 unfoldable pub vectorGood : Vector → Bool
 vectorGood v = coordinateGood (v .x) && coordinateGood (v .y) && coordinateGood (v .z)
-
--- strictly between 0 and 1
-unfoldable pub toleranceGood : Float → Bool
-toleranceGood x = lt zero64 x && lt x one64

@@ -5,7 +5,10 @@ use refusal::MOST_FACES;
 use refusal::MOST_VERTICES;
 use vector::Vector;
 ghost use mathlib.Core.Path.{_≡_};
-ghost use Rattle.mesh.specs.Meshes.{cornerAt, faceAt, shapedOf, countedOf, allBelow, vectorGood, toleranceGood};
+ghost use mathlib.Core.Bool.{_&&_};
+ghost use Prim.Native.Nat.{ℕ, _<_};
+ghost use lib.Dec.{ltb};
+ghost use Rattle.mesh.specs.Meshes.{cornerAt, faceAt, shapedOf, countedOf, allBelow, reachOf, vectorGood};
 
 // The three corners of a face.
 pub struct Triangle {
@@ -56,18 +59,44 @@ pub fn counted(vertices: usize, indices: usize) -> bool
     indices / 3 <= MOST_FACES
 }
 
+// The larger of two numbers: below n exactly if both are.
+fn larger(a: u32, b: u32) -> u32
+    ensures { λ r. ⌜ ((n : ℕ) → ltb r n ≡ (ltb a n && ltb b n)) ⌝ }
+{
+    if a < b { b } else { a }
+}
+
+// The largest of the numbers, 0 of none. No number ends the loop, so that several are compared at a time.
+fn largest(indices: &[u32]) -> u32
+    ensures { λ r. ⌜ ((n : ℕ) → 0 < n → allBelow n (now (indices .entry)) ≡ ltb r n) ⌝ }
+{
+    let mut m: u32 = 0;
+    let mut i = 0;
+    while i < indices.len() {
+        m = larger(m, indices[i]);
+        i += 1;
+    }
+    m
+}
+
 // Whether every index is below n.
 pub fn all_below(indices: &[u32], n: usize) -> bool
     ensures { λ r. ⌜ r ≡ allBelow n (now (indices .entry)) ⌝ }
 {
-    let mut i = 0;
-    while i < indices.len() {
-        if n <= indices[i] as usize {
-            return false;
-        }
-        i += 1;
+    if n == 0 {
+        return indices.len() == 0;
     }
-    true
+    (largest(indices) as usize) < n
+}
+
+// Whether the first n faces are there, and with v vertices all their corners.
+pub fn reaches(indices: &[u32], v: usize, n: u32) -> bool
+    ensures { λ r. ⌜ r ≡ reachOf v (now (indices .entry)) n ⌝ }
+{
+    if indices.len() < n as usize * 3 {
+        return false;
+    }
+    all_below(indices, v)
 }
 
 // Whether a point that is handed to a call is within the bound.
@@ -81,14 +110,4 @@ pub fn vector_good(v: Vector) -> bool
         return false;
     }
     coordinate_good(v.z)
-}
-
-// Whether a tolerance lies strictly between 0 and 1.
-pub fn tolerance_good(x: f64) -> bool
-    ensures { λ r. ⌜ r ≡ toleranceGood x ⌝ }
-{
-    if 0.0 < x {
-        return x < 1.0;
-    }
-    false
 }

@@ -11,8 +11,8 @@ use Rattle.refusal.specs.declared.Verdict.the-variants.{Accepted, Refused}
 use Rattle.refusal.specs.Refusals.{unless}
 use Rattle.refusal.specs.Said.{Said, accepted, refused}
 use Rattle.vector.specs.declared.Vector.{Vector}
-use Rattle.path.specs.Tests.{coordinatesGood}
-use Rattle.mesh.specs.Meshes.{faceAt, shapedOf, countedOf, allBelow, vectorGood, toleranceGood}
+use Rattle.path.specs.Tests.{coordinatesGood, toleranceGood}
+use Rattle.mesh.specs.Meshes.{faceAt, shapedOf, countedOf, allBelow, vectorGood}
 use Rattle.mesh_mode.specs.declared.Mode.{Mode}
 use Rattle.mesh_mode.specs.declared.Mode.the-variants.{Triangles, Polygonal, Silhouette}
 use Rattle.mesh_mode.specs.Modes.{modeOf}

@@ -2,7 +2,6 @@
 use mesh::all_below;
 use mesh::counted;
 use mesh::shaped;
-use mesh::tolerance_good;
 use mesh::vector_good;
 use mesh_mode::Mode;
 use mesh_mode::Moded;
@@ -12,6 +11,7 @@ use mesh_strokes::draw_strokes;
 use mesh_strokes::room_for;
 use mesh_strokes::scratch_for;
 use path::coordinates_good;
+use path::tolerance_good;
 use refusal::Refusal;
 use refusal::Verdict;
 use vector::Vector;

@@ -10,9 +10,9 @@ use Rattle.refusal.specs.declared.Verdict.{Verdict}
 use Rattle.refusal.specs.declared.Verdict.the-variants.{Accepted}
 use Rattle.refusal.specs.Refusals.{unless}
 use Rattle.refusal.specs.Said.{Said, accepted, refused}
-use Rattle.path.specs.Tests.{coordinatesGood}
+use Rattle.path.specs.Tests.{coordinatesGood, toleranceGood}
 use Rattle.path.specs.Left.{Left, leftBy}
-use Rattle.mesh.specs.Meshes.{shapedOf, countedOf, allBelow, vectorGood, toleranceGood}
+use Rattle.mesh.specs.Meshes.{shapedOf, countedOf, allBelow, vectorGood}
 use Rattle.mesh_section.specs.declared.Plane.{Plane}
 use Rattle.mesh_section.specs.declared.Sectioned.{Sectioned}
 use Rattle.mesh_section.specs.declared.Sectioned.the-variants as S

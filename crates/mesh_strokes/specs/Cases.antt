@@ -24,10 +24,6 @@ tolerance = ofBits binary64 0x3e11_2e0b_e826_d695
 abbrev pub Holds : Case → Type 0
 Holds (draws mode faces strokes) = drawingOf mode (vec zero64 zero64 zero64) tolerance [] square faces ≡ strokes
 
-abbrev pub Each : List Case → Type 0
-Each [] = Unit {0}
-Each (c ∷ cs) = Holds c × Each cs
-
 unfoldable pub paper : List Case
 paper =
     draws Triangles (0 ∷ 1 ∷ 2 ∷ []) ((1 ∷ 0 ∷ 2 ∷ 1 ∷ []) ∷ [])

@@ -15,10 +15,6 @@ face a b c = let z = ofBits binary64 0 in ofBits binary64 a ∷ z ∷ z ∷ ofBi
 abbrev pub Holds : Case → Type 0
 Holds (welds a b c numbers) = weldOf (face a b c) .indices ≡ numbers
 
-abbrev pub Each : List Case → Type 0
-Each [] = Unit {0}
-Each (c ∷ cs) = Holds c × Each cs
-
 unfoldable pub paper : List Case
 paper =
     welds 0 0x3eb0_c6f7_a0b5_ed8d 0 (0 ∷ 1 ∷ 0 ∷ [])  -- 0, 0.000001, 0

@@ -35,10 +35,6 @@ Holds (drawn c) = D.Holds c
 Holds (written c) = B.Holds c
 Holds (listed c) = L.Holds c
 
-abbrev pub Each : List Case → Type 0
-Each [] = Unit {0}
-Each (c ∷ cs) = Holds c × Each cs
-
 -- [1,2] [2,3] [2,4] and [7] [7]
 unfoldable pub splices : List Case
 splices =

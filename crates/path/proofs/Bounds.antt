@@ -8,17 +8,10 @@ use native.Mathlib.Omega.{arith}
 use lib.Dec.{T, ltb, eqb, ltb→lt, lt→ltb, nltb→le, eqb→eq, eqb-refl}
 use lib.Arith.{le→nltb}
 use lib.Ieee.{Float, nan, inf, fin, up, down, ofBits, lt, eq, le, neg}
+use lib.Ieee.Bits.{is-true, is-false}
 use lib.Ieee.Fits.{down-pos}
 use Rattle.vector.specs.Abs.{absOf}
 use Rattle.path.specs.Tests.{mostNumber, coordinateGood}
-
-is-false : (b : Bool) → T (not b) → b ≡ false
-is-false true h = absurd h
-is-false false h = refl
-
-is-true : (b : Bool) → T b → b ≡ true
-is-true true h = refl
-is-true false h = absurd h
 
 unlevel : (a b : ℕ) → b < a → eqb a b ≡ false
 unlevel a b h = go (eqb a b) (eqb→eq a b)

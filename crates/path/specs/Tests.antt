@@ -7,7 +7,7 @@ use lib.Dec.{leb, eqb}
 use lib.Ieee.{Float, binary64, ofBits, le, lt}
 use Rattle.refusal.specs.Limits.{mostPoints, mostStrokes}
 use Rattle.vector.specs.Abs.{absOf}
-use Rattle.vector.specs.Lengths.{zero64}
+use Rattle.vector.specs.Lengths.{zero64, one64}
 use Rattle.path.specs.Strokes.{goodStarts}
 
 -- three numbers a point, and a good table
@@ -37,3 +37,7 @@ stepGood x = lt zero64 x && le x mostNumber
 -- a width or a height: 0 to the bound
 unfoldable pub sizeGood : Float → Bool
 sizeGood x = le zero64 x && le x mostNumber
+
+-- a tolerance: strictly between 0 and 1
+unfoldable pub toleranceGood : Float → Bool
+toleranceGood x = lt zero64 x && lt x one64

@@ -9,7 +9,7 @@ ghost use lib.ListN.{getD, set};
 ghost use lib.Ieee.{nan};
 ghost use Rattle.path.specs.Strokes.{goodStarts, pointAt};
 ghost use Rattle.path.specs.Laid.{putPoint};
-ghost use Rattle.path.specs.Tests.{shapedOf, countedOf, coordinateGood, coordinatesGood, stepGood, sizeGood};
+ghost use Rattle.path.specs.Tests.{shapedOf, countedOf, coordinateGood, coordinatesGood, stepGood, sizeGood, toleranceGood};
 
 // Where the next point and the next start go.
 pub struct Place {
@@ -220,6 +220,16 @@ pub fn size_good(x: f64) -> bool
 {
     if 0.0 <= x {
         return x <= MOST_NUMBER;
+    }
+    false
+}
+
+// Whether a tolerance lies strictly between 0 and 1.
+pub fn tolerance_good(x: f64) -> bool
+    ensures { λ r. ⌜ r ≡ toleranceGood x ⌝ }
+{
+    if 0.0 < x {
+        return x < 1.0;
     }
     false
 }

@@ -1,17 +1,18 @@
 -- The paper's cases of chop_adaptive, by computation.
 use mathlib.Core.Path.{refl}
 use lib.Ieee.{ofBits, ofFields, add, sub, mul, div, lt, le}
+use Rattle.refusal.specs.Each.{Each}
 use Rattle.refusal.specs.Refusals.{unless}
 use Rattle.vector.specs.Abs.{absOf}
 use Rattle.path.specs.Strokes.{goodFrom, goodStarts, gather, strokesOf, pointAt}
 use Rattle.path.specs.Laid.{nonEmpty, joined}
-use Rattle.path.specs.Tests.{shapedOf, countedOf, coordinatesGood, stepGood, sizeGood}
+use Rattle.path.specs.Tests.{shapedOf, countedOf, coordinatesGood, stepGood, sizeGood, toleranceGood}
 use Rattle.path.specs.Left.{laid, leftBy}
 use Rattle.path_adaptive.specs.Walk.{outsideOf, endsOf, join, walk, walkFrom, strokeOf, walksOf, halvingsOf}
 use Rattle.path_adaptive.specs.Tally.{spent, begun, spentStroke, spentAll}
-use Rattle.path_adaptive.specs.Call.{toleranceGood, numbersGood, pointRoom, adaptiveVerdict, adaptiveLeft}
-use Rattle.path_adaptive.specs.Cases.{Each, paper}
+use Rattle.path_adaptive.specs.Call.{numbersGood, pointRoom, adaptiveVerdict, adaptiveLeft}
+use Rattle.path_adaptive.specs.Cases.{Holds, paper}
 
-pub cases : Each paper
+pub cases : Each Holds paper
 unfolding paper adaptiveLeft leftBy laid adaptiveVerdict unless shapedOf goodStarts goodFrom countedOf coordinatesGood stepGood sizeGood toleranceGood numbersGood pointRoom absOf strokesOf gather pointAt joined nonEmpty outsideOf endsOf join walk walkFrom strokeOf walksOf halvingsOf spent begun spentStroke spentAll ofBits ofFields add sub mul div lt le
 cases = (refl, (refl, (refl, tt)))

@@ -3,15 +3,14 @@ use mathlib.Core.Bool.{Bool, _&&_}
 use mathlib.Core.List.{List, [], _∷_}
 use Prim.Native.Nat.{ℕ, _/_, min}
 use lib.ListN.{length}
-use lib.Ieee.{Float, lt}
+use lib.Ieee.{Float}
 use Rattle.refusal.specs.Limits.{mostPoints}
 use Rattle.refusal.specs.Refusals.{unless}
 use Rattle.refusal.specs.Said.{Said, accepted, refused}
 use Rattle.refusal.specs.declared.Refusal.the-variants.{Shape, Count, Number}
 use Rattle.refusal.specs.declared.Verdict.{Verdict}
 use Rattle.vector.specs.declared.matrix.Matrix.{Matrix}
-use Rattle.vector.specs.Lengths.{zero64, one64}
-use Rattle.path.specs.Tests.{shapedOf, countedOf, coordinatesGood, stepGood, sizeGood}
+use Rattle.path.specs.Tests.{shapedOf, countedOf, coordinatesGood, stepGood, sizeGood, toleranceGood}
 use Rattle.path.specs.Left.{Left, leftBy}
 use Rattle.path_adaptive.specs.declared.Adapted.{Adapted}
 use Rattle.path_adaptive.specs.declared.Adapted.the-variants as A
@@ -27,10 +26,6 @@ said (A.Refused r) = refused r
 abbrev pub entriesOf : Matrix → List Float
 entriesOf m =
     m .x00 ∷ m .x01 ∷ m .x02 ∷ m .x03 ∷ m .x10 ∷ m .x11 ∷ m .x12 ∷ m .x13 ∷ m .x20 ∷ m .x21 ∷ m .x22 ∷ m .x23 ∷ m .x30 ∷ m .x31 ∷ m .x32 ∷ m .x33 ∷ []
-
--- strictly between 0 and 1
-unfoldable pub toleranceGood : Float → Bool
-toleranceGood t = lt zero64 t && lt t one64
 
 -- the numbers of the call beside its points
 unfoldable pub numbersGood : Matrix → Float → Float → Float → Float → Bool

@@ -48,10 +48,6 @@ abbrev pub Holds : Case → Type 0
 Holds (halvings x y step points h) =
     adaptiveLeft (line x y) (0 ∷ []) identity ten ten (ofBits binary64 step) billionth (replicate 15 nan) (0 ∷ []) .answer ≡ accepted (points ∷ 1 ∷ h ∷ [])
 
-abbrev pub Each : List Case → Type 0
-Each [] = Unit {0}
-Each (c ∷ cs) = Holds c × Each cs
-
 unfoldable pub paper : List Case
 paper =
     halvings 0 0x4010_0000_0000_0000 0x4004_0000_0000_0000 3 1  -- from 0 to 4 by 2.5

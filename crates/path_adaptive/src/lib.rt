@@ -9,6 +9,7 @@ use path::put_point;
 use path::shaped;
 use path::size_good;
 use path::step_good;
+use path::tolerance_good;
 use refusal::MOST_POINTS;
 use refusal::Refusal;
 use refusal::Verdict;
@@ -26,7 +27,7 @@ ghost use Rattle.path.specs.Tests.{coordinatesGood};
 ghost use Rattle.path_adaptive.specs.Walk.{viewOf, shownOf, middleOf, bothBelow, bothAbove, outsideOf, endsOf, one, walk, walkFrom, strokeOf, walksOf, adapted, Calm};
 ghost use Rattle.path_adaptive.specs.Tally.{pointed, begun, spentStroke, spentAll, verdictOf};
 ghost use Rattle.path_adaptive.specs.Plain.{viewAt, tallyOf, pointsOf, Meets};
-ghost use Rattle.path_adaptive.specs.Call.{said, entriesOf, toleranceGood, numbersGood, pointRoom, adaptiveVerdict, adaptiveLeft};
+ghost use Rattle.path_adaptive.specs.Call.{said, entriesOf, numbersGood, pointRoom, adaptiveVerdict, adaptiveLeft};
 
 // What chop_adaptive wrote and how many halvings it made, or why it was refused.
 pub enum Adapted {
@@ -527,16 +528,6 @@ fn matrix_good(m: Matrix) -> bool
         m.x33,
     ];
     coordinates_good(&entries)
-}
-
-// Whether a tolerance lies strictly between 0 and 1.
-fn tolerance_good(tolerance: f64) -> bool
-    ensures { λ r. ⌜ r ≡ toleranceGood tolerance ⌝ }
-{
-    if 0.0 < tolerance {
-        return tolerance < 1.0;
-    }
-    false
 }
 
 // Whether the numbers beside the points are good.

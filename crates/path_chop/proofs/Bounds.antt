@@ -10,6 +10,7 @@ use borrow.Author.Tests.{le-leb, lt-leb}
 use lib.Dec.{T, leb, leb→le}
 use lib.ListN.{length}
 use lib.Ieee.{Float, binary64, fits, ofBits, add, lt, isNan}
+use lib.Ieee.Bits.{is-false}
 use lib.Ieee.Fits.{and-l, and-r, add-fits}
 use Rattle.refusal.specs.Limits.{mostPoints}
 use Rattle.vector.specs.declared.Vector.{Vector}
@@ -50,10 +51,6 @@ pub record Reaches (m s w : Float) : Type 0 where
   pub has-root : HasRoot w
   pub first : (step : Float) → reach m step ≤ reach w step
   pub second : (step : Float) → reach s step ≤ reach w step
-
-is-false : (b : Bool) → T (not b) → b ≡ false
-is-false true h = absurd h
-is-false false h = refl
 
 pub larger-reaches : (m s w : Float) → HasRoot m → T (fits binary64 s) → w ≡ cond (lt m s) s m → Reaches m s w
 larger-reaches m s w h k e = subst (λ (z : Float). Reaches m s z) (sym e) (go (lt m s) refl)

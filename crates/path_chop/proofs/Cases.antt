@@ -1,6 +1,7 @@
 -- The paper's proved cases of chop, by computation.
 use mathlib.Core.Path.{refl}
 use lib.Ieee.{ofBits, ofFields, add, sub, mul, div, lt, le}
+use Rattle.refusal.specs.Each.{Each}
 use Rattle.refusal.specs.Refusals.{unless}
 use Rattle.vector.specs.Abs.{absOf}
 use Rattle.vector.specs.Root.{rootOf}
@@ -10,8 +11,8 @@ use Rattle.path.specs.Tests.{shapedOf, countedOf, coordinatesGood, stepGood}
 use Rattle.path.specs.Left.{laid, leftBy}
 use Rattle.path_chop.specs.Chop.{stepsOf, cut, span, spans, chopped, choppedOf}
 use Rattle.path_chop.specs.Call.{roomFor, chopVerdict, chopLeft}
-use Rattle.path_chop.specs.Cases.{line, Each, paper}
+use Rattle.path_chop.specs.Cases.{line, Holds, paper}
 
-pub cases : Each paper
+pub cases : Each Holds paper
 unfolding paper line chopLeft leftBy laid chopVerdict unless shapedOf goodStarts goodFrom countedOf coordinatesGood stepGood absOf roomFor choppedOf strokesOf gather pointAt chopped spans span cut stepsOf joined nonEmpty rootOf ofBits ofFields add sub mul div lt le
 cases = (refl, (refl, tt))

@@ -19,10 +19,6 @@ line = zero64 ∷ zero64 ∷ zero64 ∷ one64 ∷ zero64 ∷ zero64 ∷ []
 abbrev pub Holds : Case → Type 0
 Holds (points step n) = chopLeft line (0 ∷ []) (ofBits binary64 step) (replicate 15 nan) (0 ∷ []) .answer ≡ accepted (n ∷ 1 ∷ [])
 
-abbrev pub Each : List Case → Type 0
-Each [] = Unit {0}
-Each (c ∷ cs) = Holds c × Each cs
-
 unfoldable pub paper : List Case
 paper =
     points 0x3fd0_0000_0000_0000 5  -- step 0.25

@@ -20,10 +20,6 @@ roof = zero64 ∷ zero64 ∷ zero64 ∷ one64 ∷ one64 ∷ zero64 ∷ ofBits bi
 abbrev pub Holds : Case → Type 0
 Holds (points t n) = simplifyLeft roof (0 ∷ []) (ofBits binary64 t) (replicate 9 nan) (0 ∷ []) .answer ≡ accepted (n ∷ 1 ∷ 1 ∷ [])
 
-abbrev pub Each : List Case → Type 0
-Each [] = Unit {0}
-Each (c ∷ cs) = Holds c × Each cs
-
 unfoldable pub paper : List Case
 paper =
     points 0x3ff0_0000_0000_0000 2  -- threshold 1

@@ -1,12 +1,13 @@
 -- The paper's proved case of the listing, by computation.
 use mathlib.Core.Path.{refl}
+use Rattle.refusal.specs.Each.{Each}
 use Rattle.path.specs.Strokes.{gather, strokesOf}
 use Rattle.path.specs.Laid.{nonEmpty, joined, startsFrom}
 use Rattle.mesh.specs.Meshes.{allBelow}
 use Rattle.sheet.specs.Sheets.{bytesOf, bytesAll, wordAt, headerOf, sheetOf, startsIn, numbersIn, modeGood, countsGood, placesGood, headerGood, strictFrom, tableGood, isSheet}
 use Rattle.sheet_list.specs.Listing.{topFrom, digitsFrom, decimal, spaced, lineOf, listed, refusedText, textOf}
-use Rattle.sheet_list.specs.Cases.{Each, paper}
+use Rattle.sheet_list.specs.Cases.{Holds, paper}
 
-pub cases : Each paper
+pub cases : Each Holds paper
 unfolding paper textOf listed refusedText lineOf spaced decimal digitsFrom topFrom isSheet tableGood strictFrom headerGood placesGood countsGood modeGood numbersIn startsIn sheetOf headerOf wordAt bytesAll bytesOf allBelow nonEmpty joined startsFrom gather strokesOf
 cases = (refl, (refl, (refl, tt)))

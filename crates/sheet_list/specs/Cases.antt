@@ -12,10 +12,6 @@ pub data Case : Type 0 where
 abbrev pub Holds : Case → Type 0
 Holds (lists bytes text) = textOf bytes ≡ text
 
-abbrev pub Each : List Case → Type 0
-Each [] = Unit {0}
-Each (c ∷ cs) = Holds c × Each cs
-
 unfoldable pub paper : List Case
 paper =
     -- [1,0,2,1] with 3 vertices, in triangles: `1 3 1 4`, then `1 0 2 1`

@@ -1,13 +1,14 @@
 -- The paper's proved case of a sheet, by computation.
 use mathlib.Core.Path.{refl}
+use Rattle.refusal.specs.Each.{Each}
 use Rattle.refusal.specs.Refusals.{unless}
 use Rattle.path.specs.Strokes.{goodFrom, goodStarts, gather, strokesOf}
 use Rattle.path.specs.Laid.{over, nonEmpty, joined, startsFrom}
 use Rattle.mesh.specs.Meshes.{allBelow}
 use Rattle.sheet.specs.Sheets.{bytesOf, bytesAll, headerOf, sheetOf, countsGood}
 use Rattle.sheet_write.specs.Write.{modeWord, verdictOf, leftBy, writeLeft}
-use Rattle.sheet_write.specs.Cases.{Each, paper}
+use Rattle.sheet_write.specs.Cases.{Holds, paper}
 
-pub cases : Each paper
+pub cases : Each Holds paper
 unfolding paper writeLeft leftBy verdictOf unless countsGood modeWord goodStarts goodFrom allBelow gather strokesOf over nonEmpty joined startsFrom bytesOf bytesAll headerOf sheetOf
 cases = (refl, (refl, (refl, tt)))

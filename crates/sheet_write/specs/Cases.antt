@@ -14,10 +14,6 @@ pub data Case : Type 0 where
 abbrev pub Holds : Case → Type 0
 Holds (writes mode vertices ns ss bytes) = writeLeft mode vertices ns ss (replicate (length bytes) 9) ≡ left (accepted (length bytes ∷ [])) bytes
 
-abbrev pub Each : List Case → Type 0
-Each [] = Unit {0}
-Each (c ∷ cs) = Holds c × Each cs
-
 -- the header 1, 3, 1, 4, 24, 28; the start 0; and 1 0 2 1
 abbrev pub drawn : List ℕ
 drawn =

@@ -8,14 +8,11 @@ use lib.Dec.{T, ltb, eqb, eqb→eq, ltb→lt, nltb→le}
 use lib.Arith.{le→nltb}
 use lib.IntN.{ℤ}
 use lib.Ieee.{Float, nan, inf, fin, up, down, binary64, ofBits, round, div, lt, eq, le, below, level}
+use lib.Ieee.Bits.{is-false}
 use lib.Ieee.Fits.{and-l, and-r, up-pos, down-pos}
 use lib.Ieee.Order.{round-mono}
 use Rattle.vector.specs.Lengths.{zero64, one64}
 use Rattle.vector.proofs.Order.{lt-one-way}
-
-is-false : (b : Bool) → T (not b) → b ≡ false
-is-false true h = absurd h
-is-false false h = refl
 
 level-not-below : (s t : Bool) (a b : ℕ) → T (level s a t b) → T (not (below t b s a))
 level-not-below false false a b h = let e = eqb→eq a b (and-l (eqb a b) true h) in le→nltb b a (omega arith)

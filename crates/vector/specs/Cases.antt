@@ -17,10 +17,6 @@ abbrev pub Holds : Case → Type 0
 Holds (floors x z) = floorOf (ofBits binary64 x) ≡ accepted (z ∷ [])
 Holds (roots x y) = rootOf (ofBits binary64 x) ≡ accepted (ofBits binary64 y ∷ [])
 
-abbrev pub Each : List Case → Type 0
-Each [] = Unit {0}
-Each (c ∷ cs) = Holds c × Each cs
-
 unfoldable pub paper : List Case
 paper =
     floors 0xbfe0_0000_0000_0000 (negsuc 0)  -- -0.5 gives -1

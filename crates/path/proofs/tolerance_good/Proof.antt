@@ -1,7 +1,7 @@
 -- `tolerance_good` meets its contract.
-use Rattle.mesh.specs.Meshes.{toleranceGood}
-use Rattle.mesh.proofs.tolerance_good.Statement.{statement}
-use Rattle.mesh.proofs.tolerance_good.Tie as tie
+use Rattle.path.specs.Tests.{toleranceGood}
+use Rattle.path.proofs.tolerance_good.Statement.{statement}
+use Rattle.path.proofs.tolerance_good.Tie as tie
 
 returns : tie.Need-returns
 unfolding toleranceGood
