@@ -9,7 +9,7 @@ use native.Mathlib.Omega.{arith}
 use lib.Dec.{eqb, leb, ltb}
 use lib.ListN.{length, getD, drop, drop-of-length-le}
 use lib.Seq.{drop-cons}
-use borrow.Author.Tests.{le-ltb, lt-ltb, ltb-true, leb-true, ne-eqb}
+use borrow.Author.Tests.{le-ltb, lt-ltb, ltb-true, leb-true, le-leb, ne-eqb}
 use Rattle.path.proofs.Tests.{both, split}
 use Rattle.mesh.specs.Meshes.{allBelow, reachOf}
 
@@ -65,3 +65,8 @@ module _ (v : ℕ) (is : List ℕ) (n k : ℕ) (h : reachOf v is n ≡ true) (l 
   pub vertex-there : getD is k 0 < v
   unfolding reachOf
   vertex-there = index-below v is k (both (leb (n * 3) (length is)) (allBelow v is) h .1) corner-there
+
+-- indices that are all those of vertices reach
+pub all-reach : (v : ℕ) (is : List ℕ) → allBelow v is ≡ true → reachOf v is (length is / 3) ≡ true
+unfolding reachOf
+all-reach v is h = rw (le-leb (length is / 3 * 3) (length is) (omega arith)) h

@@ -16,11 +16,11 @@ use refusal::Refusal;
 use refusal::Verdict;
 use vector::Vector;
 ghost use mathlib.Core.Path.{_≡_};
-ghost use mathlib.Core.Bool.{_&&_};
+ghost use mathlib.Core.Bool.{true, _&&_};
 ghost use Prim.Native.Nat.{_/_, _≤_};
 ghost use lib.ListN.{length};
 ghost use Rattle.refusal.specs.Limits.{mostFaces};
-ghost use Rattle.mesh.specs.Meshes.{shapedOf};
+ghost use Rattle.mesh.specs.Meshes.{shapedOf, allBelow};
 ghost use Rattle.mesh_draw.specs.Call.{modeGood, modeIn, paired, numbersGood, flatIn, workVerdict, verdictOf, said, drawLeft};
 ghost use Rattle.mesh_strokes.specs.Strokes.{left};
 
@@ -79,6 +79,7 @@ fn numbers_good(vertices: &[f64], number: u32, cos_theta: f64, eye: Vector, tole
 // Whether the mode needs a normal that some face does not have.
 fn flat_in(mode: Mode, vertices: &[f64], indices: &[u32]) -> bool
     requires { ⌜ length (now indices) / 3 ≤ mostFaces ⌝ }
+    requires { ⌜ allBelow (length (now vertices) / 3) (now indices) ≡ true ⌝ }
     ensures { λ r. ⌜ r ≡ flatIn mode (now (vertices .entry)) (now (indices .entry)) ⌝ }
 {
     let n = (indices.len() / 3) as u32;
@@ -103,6 +104,7 @@ fn work_verdict(
     start_room: usize,
 ) -> Verdict
     requires { ⌜ length (now indices) / 3 ≤ mostFaces ⌝ }
+    requires { ⌜ allBelow (length (now vertices) / 3) (now indices) ≡ true ⌝ }
     ensures { λ r. ⌜ r ≡ workVerdict (now (vertices .entry)) (now (indices .entry)) number «cos_theta» eye tolerance words numbers room «start_room» ⌝ }
 {
     if !numbers_good(vertices, number, cos_theta, eye, tolerance) {

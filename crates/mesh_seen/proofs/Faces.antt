@@ -3,7 +3,7 @@ use mathlib.Core.Path.{_≡_, refl, sym, ap, _∙_, subst}
 use mathlib.Core.Logic.{_⊎_, inl, inr, ⊎-elim}
 use mathlib.Core.Bool.{Bool, true, false, _||_}
 use mathlib.Core.List.{List, [], _∷_, _++_}
-use Prim.Native.Nat.{ℕ, zero, suc, _+_, _-_, _*_, _≤_, _<_}
+use Prim.Native.Nat.{ℕ, zero, suc, _+_, _-_, _*_, _/_, _≤_, _<_}
 use native.Mathlib.Omega.{arith}
 use lib.ListN.{length, getD, set, length-set, drop, replicate}
 use lib.Seq.{getD-set-same, getD-set-other}
@@ -11,8 +11,9 @@ use lib.Ieee.{Float, nan}
 use Rattle.vector.specs.declared.Vector.{Vector}
 use Rattle.vector.specs.Vectors.{subOf, dotOf}
 use Rattle.mesh.specs.declared.Triangle.{Triangle}
+use Rattle.mesh.specs.Meshes.{faceAt, reachOf}
 use Rattle.mesh_seen.specs.Normals.{flatOf, normalOf, facingOf}
-use Rattle.mesh_seen.specs.Seen.{flatFrom, putSeen, seenFrom, normalAt, facingAt}
+use Rattle.mesh_seen.specs.Seen.{flatFrom, someFlat, putSeen, seenFrom, seenAll, normalAt, facingAt}
 
 -- ---- a list filled from the front
 fill-suc : {A : Type 0} (n : ℕ) (v : A) (d : List A) → n < length d → set (replicate n v ++ drop n d) n v ≡ replicate (suc n) v ++ drop (suc n) d
@@ -142,3 +143,13 @@ module _ (eye : Vector) (at : ℕ → Triangle) where
   unfolding seenFrom
   seen-length f zero l = refl
   seen-length f (suc n) l = seen-length (f + 1) n (putSeen eye (at f) l f) ∙ put-length (at f) l f
+
+-- ---- where all corners are there
+module _ (vs : List Float) (is : List ℕ) (n : ℕ) (h : reachOf (length vs / 3) is n ≡ true) where
+  pub flat-there : someFlat vs is n ≡ flatFrom (faceAt vs is) 0 n
+  unfolding someFlat
+  flat-there = rw h
+
+  pub seen-there : (eye : Vector) (l : List Float) → seenAll eye vs is n l ≡ seenFrom eye (faceAt vs is) 0 n l
+  unfolding seenAll
+  seen-there eye l = rw h

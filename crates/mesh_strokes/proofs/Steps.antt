@@ -20,6 +20,7 @@ use Rattle.path_ends.specs.Splice.{splice}
 use Rattle.path_splice.specs.Lent as lent
 use Rattle.path_splice.specs.Pairs.{pairsOf, fits, pairsLeft}
 use Rattle.path_splice.specs.Text.{LaidOut}
+use Rattle.mesh.specs.Meshes.{allBelow}
 use Rattle.mesh_mode.specs.declared.Mode.{Mode}
 use Rattle.mesh_edges.specs.Words.{edgesIn}
 use Rattle.mesh_edges.proofs.Said.{edges-words, edges-length}
@@ -95,12 +96,12 @@ drawing-of mode eye tolerance flips vs is l s t u m words numbers room startRoom
 
 -- ---- the two returns
 module _ (vs : List Float) (is flips : List ℕ) (mode : Mode) (eye : Vector) (tolerance : Float) (s : List ℕ) (f : List Float) (op os : List ℕ) where
-  pub strokes-yes : (s′ : List ℕ) (f′ : List Float) (op′ os′ : List ℕ) (p q : ℕ) → fitsOf (length is) (length s) (length f) (length op) (length os) ≡ true
+  pub strokes-yes : (s′ : List ℕ) (f′ : List Float) (op′ os′ : List ℕ) (p q : ℕ) → (fitsOf (length is) (length s) (length f) (length op) (length os) && allBelow (length vs / 3) is) ≡ true
       → s′ ≡ replicate (length s) 0 → f′ ≡ replicate (length f) zero64 → LaidOut (drawingOf mode eye tolerance flips vs is) op os op′ os′ p q
       → left (accepted (p ∷ q ∷ [])) s′ f′ op′ os′ ≡ strokesLeft vs is flips mode eye tolerance s f op os
   unfolding strokesLeft laid
   strokes-yes s′ f′ op′ os′ p q e es ef L = rw (e, es, ef, L .points, L .starts, L .many, L .strokes)
 
-  pub strokes-no : fitsOf (length is) (length s) (length f) (length op) (length os) ≡ false → left (accepted (0 ∷ 0 ∷ [])) s f op os ≡ strokesLeft vs is flips mode eye tolerance s f op os
+  pub strokes-no : (fitsOf (length is) (length s) (length f) (length op) (length os) && allBelow (length vs / 3) is) ≡ false → left (accepted (0 ∷ 0 ∷ [])) s f op os ≡ strokesLeft vs is flips mode eye tolerance s f op os
   unfolding strokesLeft
   strokes-no e = rw e

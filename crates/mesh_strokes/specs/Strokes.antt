@@ -10,6 +10,7 @@ use Rattle.refusal.specs.Said.{Said, accepted}
 use Rattle.vector.specs.declared.Vector.{Vector}
 use Rattle.vector.specs.Lengths.{zero64}
 use Rattle.path.specs.Laid.{over, joined, startsFrom}
+use Rattle.mesh.specs.Meshes.{allBelow}
 use Rattle.mesh_mode.specs.declared.Mode.{Mode}
 use Rattle.mesh_strokes.specs.Draw.{drawingOf}
 
@@ -39,7 +40,7 @@ roomFor faces room startRoom = leb (6 * faces) room && leb (3 * faces) startRoom
 unfoldable pub fits : ℕ → ℕ → ℕ → ℕ → ℕ → Bool
 fits indices words numbers room startRoom = eqb (indices % 3) 0 && leb (indices / 3) mostFaces && scratchFor (indices / 3) words numbers && roomFor (indices / 3) room startRoom
 
--- a drawing; nothing is changed where it does not fit
+-- a drawing; nothing is changed where it does not fit, or where an index is that of no vertex
 unfoldable pub strokesLeft : List Float → List ℕ → List ℕ → Mode → Vector → Float → List ℕ → List Float → List ℕ → List ℕ → Left
 strokesLeft vs is flips mode eye tolerance s f op os =
-    cond (fits (length is) (length s) (length f) (length op) (length os)) (laid (drawingOf mode eye tolerance flips vs is) s f op os) (left (accepted (0 ∷ 0 ∷ [])) s f op os)
+    cond (fits (length is) (length s) (length f) (length op) (length os) && allBelow (length vs / 3) is) (laid (drawingOf mode eye tolerance flips vs is) s f op os) (left (accepted (0 ∷ 0 ∷ [])) s f op os)

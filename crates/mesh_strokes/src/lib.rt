@@ -1,5 +1,6 @@
 // The strokes of a drawing, into room that is there: the sides of the mesh by their pairs, the edges that the mode keeps after
 // them, spliced.
+use mesh::all_below;
 use mesh_edges::edge_end;
 use mesh_edges::edges;
 use mesh_keep::kept;
@@ -12,6 +13,7 @@ use path_splice::splice_pairs;
 use refusal::MOST_FACES;
 use vector::Vector;
 ghost use mathlib.Core.Path.{_≡_};
+ghost use mathlib.Core.Bool.{true, _&&_};
 ghost use mathlib.Core.List.{[], _∷_};
 ghost use Prim.Native.Nat.{_+_, _-_, _*_, _/_, _<_, _≤_};
 ghost use lib.ListN.{length, getD};
@@ -19,6 +21,7 @@ ghost use Rattle.refusal.specs.Limits.{mostFaces};
 ghost use Rattle.refusal.specs.Said.{accepted};
 ghost use Rattle.order.specs.Regions.{region};
 ghost use Rattle.path_splice.specs.Text.{LaidOut};
+ghost use Rattle.mesh.specs.Meshes.{allBelow};
 ghost use Rattle.mesh_edges.specs.Words.{edgesIn};
 ghost use Rattle.mesh_keep.specs.Keep.{keptBy, facesOf, seenIn};
 ghost use Rattle.mesh_strokes.specs.Draw.{drawingOf};
@@ -95,6 +98,7 @@ fn keep_edges(mode: Mode, seen: &[f64], indices: &[u32], s: &mut [u32], toleranc
 // Stores what the mode needs to know of the faces; for triangles that is nothing.
 fn look(mode: Mode, vertices: &[f64], indices: &[u32], eye: Vector, seen: &mut [f64])
     requires { ⌜ length (now indices) / 3 ≤ mostFaces ⌝ }
+    requires { ⌜ allBelow (length (now vertices) / 3) (now indices) ≡ true ⌝ }
     ensures { λ _. ⌜ now (seen .exit) ≡ lookIn mode eye (now (vertices .entry)) (now (indices .entry)) (now (seen .entry)) ⌝ }
 {
     let n = (indices.len() / 3) as u32;
@@ -140,6 +144,7 @@ fn draw_in(
     out_starts: &mut [u32],
 ) -> Place
     requires { ⌜ Fitting (now indices) (length (now scratch)) (length (now seen)) (length (now «out_points»)) (length (now «out_starts»)) ⌝ }
+    requires { ⌜ allBelow (length (now vertices) / 3) (now indices) ≡ true ⌝ }
     ensures { λ r. ⌜ LaidOut (drawingOf mode eye tolerance (now (flips .entry)) (now (vertices .entry)) (now (indices .entry))) (now («out_points» .entry)) (now («out_starts» .entry))
         (now («out_points» .exit)) (now («out_starts» .exit)) (r .points) (r .starts) ⌝ }
 {
@@ -186,7 +191,25 @@ fn fits(indices: usize, words: usize, numbers: usize, room: usize, start_room: u
     room_for(indices / 3, room, start_room)
 }
 
-// Draws in a mode, and leaves scratch all zero. Where it does not fit, nothing is changed and nothing written.
+// Whether all has room, and with so many numbers of vertices every index is that of a vertex.
+fn ready(
+    vertices: usize,
+    indices: &[u32],
+    words: usize,
+    numbers: usize,
+    room: usize,
+    start_room: usize,
+) -> bool
+    ensures { λ r. ⌜ r ≡ (fitsOf (length (now (indices .entry))) words numbers room «start_room» && allBelow (vertices / 3) (now (indices .entry))) ⌝ }
+{
+    if !fits(indices.len(), words, numbers, room, start_room) {
+        return false;
+    }
+    all_below(indices, vertices / 3)
+}
+
+// Draws in a mode, and leaves scratch all zero. Where it does not fit, or an index is that of no vertex, nothing is
+// changed and nothing written.
 pub fn draw_strokes(
     vertices: &[f64],
     indices: &[u32],
@@ -203,8 +226,9 @@ pub fn draw_strokes(
         ≡ strokesLeft (now (vertices .entry)) (now (indices .entry)) (now (flips .entry)) mode eye tolerance
         (now (scratch .entry)) (now (seen .entry)) (now («out_points» .entry)) (now («out_starts» .entry)) ⌝ }
 {
-    if !fits(
-        indices.len(),
+    if !ready(
+        vertices.len(),
+        indices,
         scratch.len(),
         seen.len(),
         out_points.len(),

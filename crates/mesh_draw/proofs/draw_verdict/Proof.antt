@@ -30,7 +30,7 @@ unfolding verdictOf unless
 returns-3 c = simp (sym (c .before .before .before .before .before .shaped-with .ensures) ∙ not-false _ (c .before .before .before .before .if1 .left), sym (c .before .before .before .counted .ensures) ∙ not-false _ (c .before .before .if2 .left), sym (c .before .all-below .ensures) ∙ not-true _ (c .if3 .taken))
 
 work-verdict-requires : tie.Need-work-verdict-requires
-work-verdict-requires c κs = few-faces _ _ (sym (c .before .before .before .counted .ensures) ∙ not-false _ (c .before .before .if2 .left))
+work-verdict-requires c κs = (few-faces _ _ (sym (c .before .before .before .counted .ensures) ∙ not-false _ (c .before .before .if2 .left)), sym (c .before .all-below .ensures) ∙ not-false _ (c .if3 .left))
 
 returns-4 : tie.Need-returns-4
 unfolding verdictOf unless

@@ -1,6 +1,8 @@
 -- `flat_in` meets its contract.
 use borrow.Author.Needs.{needs}
 use mathlib.Core.Path.{_∙_}
+use Rattle.mesh.proofs.Tests.{all-reach}
+use Rattle.mesh_seen.proofs.Faces.{flat-there}
 use Rattle.mesh_draw.proofs.Modes.{flat-triangles, flat-polygonal, flat-silhouette}
 use Rattle.mesh_draw.proofs.flat_in.Statement.{statement}
 use Rattle.mesh_draw.proofs.flat_in.Tie as tie
@@ -27,10 +29,10 @@ returns : tie.Need-returns
 returns c = let a = c .before .before .before .before .args in flat-triangles (a .mode) (a .vertices .now) (a .indices .now) (c .enum-told .given .1)
 
 returns-2 : tie.Need-returns-2
-returns-2 c = let a = c .before .before .before .before .before .args in c .some-flat .ensures ∙ flat-polygonal (a .mode) (a .vertices .now) (a .indices .now) (c .before .enum-told2 .given .1)
+returns-2 c = let a = c .before .before .before .before .before .args in c .some-flat .ensures ∙ flat-there (a .vertices .now) (a .indices .now) _ (all-reach _ (a .indices .now) (c .before .before .before .before .before .pre .1)) ∙ flat-polygonal (a .mode) (a .vertices .now) (a .indices .now) (c .before .enum-told2 .given .1)
 
 returns-3 : tie.Need-returns-3
-returns-3 c = let a = c .before .before .before .before .before .args in c .some-flat2 .ensures ∙ flat-silhouette (a .mode) (a .vertices .now) (a .indices .now) _ (c .before .enum-told3 .given .1)
+returns-3 c = let a = c .before .before .before .before .before .args in c .some-flat2 .ensures ∙ flat-there (a .vertices .now) (a .indices .now) _ (all-reach _ (a .indices .now) (c .before .before .before .before .before .pre .1)) ∙ flat-silhouette (a .mode) (a .vertices .now) (a .indices .now) _ (c .before .enum-told3 .given .1)
 
 pub flat-in-spec : {M : Type 1} → statement M
 flat-in-spec =

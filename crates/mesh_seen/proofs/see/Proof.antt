@@ -1,69 +1,26 @@
--- `see` meets its contract: what is still to be stored from face f on is what was to be stored at the start.
+-- `see` meets its contract.
+use mathlib.Core.Path.{sym, _∙_}
+use Rattle.mesh_seen.specs.Seen.{seenAll}
 use borrow.Author.Needs.{needs}
-use mathlib.Core.Path.{_≡_, refl, sym, ap, _∙_}
-use mathlib.Core.List.{List}
-use Prim.Native.Nat.{_-_, _≤_}
-use native.Mathlib.Omega.{arith}
-use lib.ListN.{length}
-use lib.Ieee.{Float}
-use Rattle.mesh.specs.declared.Triangle.{Triangle}
-use Rattle.mesh.specs.Meshes.{faceAt}
-use Rattle.mesh_seen.specs.Seen.{putSeen, seenFrom}
-use Rattle.mesh_seen.proofs.Faces.{seen-more, seen-none}
 use Rattle.mesh_seen.proofs.see.Statement.{statement}
 use Rattle.mesh_seen.proofs.see.Tie as tie
 
-abbrev Inv-loop : tie.InvT-loop
-Inv-loop vertices indices eye n out₀ f₀ out f =
-    (f ≤ n) × (length out ≡ length out₀) × (seenFrom eye (faceAt vertices indices) f (n - f) out ≡ seenFrom eye (faceAt vertices indices) 0 n out₀)
+reaches-requires : tie.Need-reaches-requires
+reaches-requires c κs = search needs
 
-abbrev μ-loop : tie.MeasureT-loop
-μ-loop vertices indices eye n out₀ f₀ out f = n - f
+see-in-requires : tie.Need-see-in-requires
+see-in-requires c κs = sym (c .before .before .reaches .ensures) ∙ c .before .if1 .taken
 
-loop-holds : tie.Need-loop-holds Inv-loop μ-loop
-loop-holds c = let n = c .before .before .before .args .n in let e : n - 0 ≡ n = omega arith in (omega arith, refl, rw e)
+same-length : tie.Need-same-length
+same-length c = search needs
 
-face-at-requires : tie.Need-face-at-requires Inv-loop μ-loop
-face-at-requires c κs = search needs
+returns : tie.Need-returns
+unfolding seenAll
+returns c = rw (sym (c .before .before .before .before .before .reaches .ensures) ∙ c .before .before .before .before .if1 .taken) (c .before .before .see-in .ensures)
 
-put-seen-requires : tie.Need-put-seen-requires Inv-loop μ-loop
-put-seen-requires c κs = search needs
-
-add-f : tie.Need-add-f Inv-loop μ-loop
-add-f c = omega (arith, c .before .before .before .before .before .loop-test .taken)
-
-loop-less : tie.Need-loop-less Inv-loop μ-loop
-loop-less c = omega (arith, c .before .before .before .before .before .loop-test .taken)
-
-loop-again : tie.Need-loop-again Inv-loop μ-loop
-loop-again c =
-    let l = c .before .before .before .before .before .before .loop in
-    let a = c .before .before .before .before .before .before .before .before .before .before .args in
-    let t = c .before .before .before .before .before .loop-test .taken in
-    let at = faceAt (a .vertices .now) (a .indices .now) in
-    let e = c .before .before .put-seen .ensures ∙ ap (λ (x : Triangle). putSeen (a .eye) x (l .out) (l .f)) (c .before .before .before .before .face-at .ensures) in
-    (omega (arith, t), cc, ap (seenFrom (a .eye) at _ _) e ∙ sym (seen-more (a .eye) at (l .f) (a .n) (l .out) t) ∙ l .inv .2)
-
-same-length : tie.Need-same-length Inv-loop μ-loop
-same-length c = c .before .loop .inv .1
-
-returns : tie.Need-returns Inv-loop μ-loop
-returns c =
-    let l = c .before .loop in
-    let a = c .before .before .before .before .before .args in
-    sym (seen-none (a .eye) (faceAt (a .vertices .now) (a .indices .now)) (l .f) (a .n) (l .out) (c .loop-test .left)) ∙ l .inv .2
+returns-2 : tie.Need-returns-2
+unfolding seenAll
+returns-2 c = rw (sym (c .before .reaches .ensures) ∙ c .if1 .left)
 
 pub see-spec : {M : Type 1} → statement M
-see-spec =
-    tie.close
-    (tie.spec
-    Inv-loop
-    μ-loop
-    loop-holds
-    face-at-requires
-    put-seen-requires
-    add-f
-    loop-less
-    loop-again
-    same-length
-    returns)
+see-spec = tie.close (tie.spec reaches-requires see-in-requires same-length returns returns-2)

@@ -21,7 +21,7 @@ list-edges-requires c κs = search needs
 keep-edges-requires : tie.Need-keep-edges-requires
 keep-edges-requires c κs =
     let a = c .before .before .before .before .before .before .before .before .before .before .before .before .before .before .before .before .before .args in
-    let F = c .before .before .before .before .before .before .before .before .before .before .before .before .before .before .before .before .before .pre in
+    let F = c .before .before .before .before .before .before .before .before .before .before .before .before .before .before .before .before .before .pre .0 in
     let e = c .before .before .before .before .list-edges .ensures in
     let fl = flipsFor (a .mode) (a .flips .now) in (
       room-for (a .indices .now) _ _ _ _ F (c .before .before .before .before .list-edges .last .1 .1 .1 .0) (ap length e ∙ edges-length (a .scratch .now) (a .indices .now) fl),
@@ -61,7 +61,7 @@ same-length-4 c = search needs
 returns : tie.Need-returns
 returns c =
     let a = c .before .before .before .before .before .before .before .before .before .before .before .before .before .before .before .before .before .before .before .before .before .before .before .before .before .before .before .before .before .before .args in
-    let F = c .before .before .before .before .before .before .before .before .before .before .before .before .before .before .before .before .before .before .before .before .before .before .before .before .before .before .before .before .before .before .pre in
+    let F = c .before .before .before .before .before .before .before .before .before .before .before .before .before .before .before .before .before .before .before .before .before .before .before .before .before .before .before .before .before .before .pre .0 in
     let t = c .before .before .before .before .before .before .before .before .before .before .before .before .before .before .before .before .before .list-edges .last .1 .1 .1 .0 in
     let et = c .before .before .before .before .before .before .before .before .before .before .before .before .before .before .before .before .before .list-edges .ensures in
     let K = c .before .before .before .before .before .before .before .before .before .before .before .before .keep-edges .ensures in

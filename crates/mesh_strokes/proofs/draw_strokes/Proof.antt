@@ -5,20 +5,23 @@ use Prim.Native.Nat.{ℕ}
 use lib.ListN.{replicate}
 use borrow.Author.Tests.{not-true, not-false}
 use Rattle.vector.specs.Lengths.{zero64}
+use Rattle.path.proofs.Tests.{both}
 use Rattle.mesh_strokes.proofs.Steps.{granted, strokes-yes, strokes-no}
 use Rattle.mesh_strokes.proofs.draw_strokes.Statement.{statement}
 use Rattle.mesh_strokes.proofs.draw_strokes.Tie as tie
 
-fits-requires : tie.Need-fits-requires
-fits-requires c κs = search needs
+ready-requires : tie.Need-ready-requires
+ready-requires c κs = search needs
 
 returns : tie.Need-returns
 returns c =
     let a = c .before .before .before .before .before .before .before .before .before .args in
-    strokes-no (a .vertices .now) (a .indices .now) (a .flips .now) (a .mode) (a .eye) (a .tolerance) (a .scratch .now) (a .seen .now) (a .out-points .now) (a .out-starts .now) (sym (c .before .fits2 .ensures) ∙ not-true _ (c .if1 .taken))
+    strokes-no (a .vertices .now) (a .indices .now) (a .flips .now) (a .mode) (a .eye) (a .tolerance) (a .scratch .now) (a .seen .now) (a .out-points .now) (a .out-starts .now) (sym (c .before .ready .ensures) ∙ not-true _ (c .if1 .taken))
 
 draw-in-requires : tie.Need-draw-in-requires
-draw-in-requires c κs = granted (c .before .before .before .before .before .before .before .before .before .before .before .before .before .args .indices .now) _ _ _ _ (sym (c .before .before .before .before .before .fits2 .ensures) ∙ not-false _ (c .before .before .before .before .if1 .left))
+draw-in-requires c κs =
+    let h = both _ _ (sym (c .before .before .before .before .before .ready .ensures) ∙ not-false _ (c .before .before .before .before .if1 .left)) in
+    (granted (c .before .before .before .before .before .before .before .before .before .before .before .before .before .args .indices .now) _ _ _ _ (h .0), h .1)
 
 clear-requires : tie.Need-clear-requires
 clear-requires c κs = search needs
@@ -43,7 +46,7 @@ returns-2 c =
     let a = c .before .before .before .before .before .before .before .before .before .before .before .before .before .before .before .before .before .before .before .before .before .before .before .before .before .before .before .before .before .before .args in
     let d = c .before .before .before .before .before .before .before .before .before .before .before .before .before .before .before .before .draw-in in
     strokes-yes (a .vertices .now) (a .indices .now) (a .flips .now) (a .mode) (a .eye) (a .tolerance) (a .scratch .now) (a .seen .now) (a .out-points .now) (a .out-starts .now) _ _ _ _ _ _
-    (sym (c .before .before .before .before .before .before .before .before .before .before .before .before .before .before .before .before .before .before .before .before .before .before .fits2 .ensures) ∙ not-false _ (c .before .before .before .before .before .before .before .before .before .before .before .before .before .before .before .before .before .before .before .before .before .if1 .left))
+    (sym (c .before .before .before .before .before .before .before .before .before .before .before .before .before .before .before .before .before .before .before .before .before .before .ready .ensures) ∙ not-false _ (c .before .before .before .before .before .before .before .before .before .before .before .before .before .before .before .before .before .before .before .before .before .if1 .left))
     (c .before .before .before .before .before .before .clear .ensures ∙ ap (λ (n : ℕ). replicate n 0) (d .kept .1 .1 .1 .1 .1 .1 .0)) (c .before .before .clear-seen .ensures ∙ ap (λ (n : ℕ). replicate n zero64) (d .kept .1 .1 .1 .1 .1 .1 .1 .0))
     (d .ensures)
 
@@ -51,7 +54,7 @@ pub draw-strokes-spec : {M : Type 1} → statement M
 draw-strokes-spec =
     tie.close
     (tie.spec
-    fits-requires
+    ready-requires
     returns
     draw-in-requires
     clear-requires
