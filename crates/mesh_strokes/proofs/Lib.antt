@@ -4,3 +4,4 @@ pub mod Seens
 pub mod Steps
 pub mod Drawn
 pub mod Cases
+pub mod Unique

@@ -5,3 +5,4 @@ pub mod Points
 pub mod Tests
 pub mod Bounds
 pub mod Lefts
+pub mod Places

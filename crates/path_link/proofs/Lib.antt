@@ -7,3 +7,4 @@ pub mod Mirroring
 pub mod Stepping
 pub mod Loop
 pub mod Threads
+pub mod Unique

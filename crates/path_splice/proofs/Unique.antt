@@ -2,9 +2,8 @@
 use mathlib.Core.Path.{_≡_, sym, ap}
 use mathlib.Core.List.{List, [], _∷_}
 use Prim.Native.Nat.{ℕ}
-use lib.ListN.{getD}
-use Rattle.refusal.specs.Said.{Said, accepted}
 use Rattle.path.specs.declared.Place.{Place}
+use Rattle.path.proofs.Places.{placed, same-place}
 use Rattle.refusal.specs.One.{One}
 use Rattle.refusal.proofs.Unique.{one-refusal, never-both, same-values, one-read}
 use Rattle.path_splice.specs.declared.Spliced.{Spliced}
@@ -27,13 +26,5 @@ pub one-splice : (x : Left) → One (Spliced × List ℕ × List ℕ × List ℕ
 one-splice = one-read (λ o. left (said (o .0)) (o .1) (o .2) (o .3)) (λ r t e. let a = told (r .0) (t .0) (ap (λ (l : Left). l .answer) e) in λ i. (a i, e i .scratch, e i .points, e i .starts))
 
 -- the same of strokes of two points, whose answer is a place
-abbrev placed : Place → Said ℕ
-placed r = accepted (r .points ∷ r .starts ∷ [])
-
-same-place : (r t : Place) → placed r ≡ placed t → r ≡ t
-same-place r t e =
-    let v : _≡_ {A = List ℕ} (r .points ∷ r .starts ∷ []) (t .points ∷ t .starts ∷ []) = same-values e in
-    λ i. record { points = getD (v i) 0 0; starts = getD (v i) 1 0 }
-
 pub one-pairs : (x : Left) → One (Place × List ℕ × List ℕ × List ℕ) (λ o. left (placed (o .0)) (o .1) (o .2) (o .3) ≡ x)
 one-pairs = one-read (λ o. left (placed (o .0)) (o .1) (o .2) (o .3)) (λ r t e. let a = same-place (r .0) (t .0) (ap (λ (l : Left). l .answer) e) in λ i. (a i, e i .scratch, e i .points, e i .starts))

@@ -19,6 +19,7 @@ use Rattle.path.proofs.Pushes.{length-starts}
 use Rattle.mesh.specs.Meshes.{allBelow}
 use Rattle.sheet.specs.Sheets.{bytesOf, bytesAll, wordAt, headerOf, wordsOf, sheetOf, sizeOf, strokesIn, modeIn, verticesIn, strokeCount, pointCount, startsIn, numbersIn, modeGood, countsGood, placesGood, strictFrom, tableGood, headerGood, isSheet}
 use Rattle.sheet.proofs.Sizes.{words-size}
+use Rattle.sheet.proofs.Modes.{good-most}
 use Rattle.sheet.proofs.Tables.{gather-add, gather-all, joined-all, joined-kept, kept-all, table-good, table-starts, strokes-again}
 
 -- the words that fit four bytes
@@ -146,11 +147,11 @@ module _ (m v : ℕ) (ks ns : List ℕ) (S : Sound m v ks ns) where
   Bytes = bytesAll (wordsOf m v ks ns)
 
   few : (m ≤ 3) × (v ≤ mostVertices) × (length ks ≤ mostStrokes) × (length ns ≤ mostPoints)
-  unfolding modeGood countsGood
+  unfolding countsGood
   few =
       let t = both (leb v mostVertices && leb (length ks) mostStrokes) (leb (length ns) mostPoints) (S .counts) in
       let u = both (leb v mostVertices) (leb (length ks) mostStrokes) (t .0) in
-      (leb-true m 3 (both (leb 1 m) (leb m 3) (S .mode) .1), leb-true v mostVertices (u .0), leb-true (length ks) mostStrokes (u .1), leb-true (length ns) mostPoints (t .1))
+      (good-most m (S .mode), leb-true v mostVertices (u .0), leb-true (length ks) mostStrokes (u .1), leb-true (length ns) mostPoints (t .1))
 
   all-words : allBelow wordLimit (wordsOf m v ks ns) ≡ true
   unfolding headerOf allBelow

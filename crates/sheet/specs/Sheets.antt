@@ -5,9 +5,12 @@ use Prim.Native.Nat.{ℕ, _+_, _*_, _/_, _%_}
 use lib.ListN.{length, getD}
 use lib.Dec.{leb, ltb, eqb}
 use Rattle.refusal.specs.Limits.{mostVertices, mostStrokes, mostPoints}
+use Rattle.vector.specs.Lengths.{zero64}
 use Rattle.path.specs.Strokes.{gather, strokesOf, numberAt}
 use Rattle.path.specs.Laid.{nonEmpty, joined, startsFrom}
 use Rattle.mesh.specs.Meshes.{allBelow}
+use Rattle.mesh_mode.specs.declared.Mode.{Mode}
+use Rattle.mesh_mode.specs.Modes.{modeBy, modeNumber}
 
 -- the four bytes of a word
 unfoldable pub bytesOf : ℕ → List ℕ
@@ -66,9 +69,18 @@ startsIn bs = gather (wordAt bs) 6 (strokeCount bs)
 unfoldable pub numbersIn : List ℕ → List ℕ
 numbersIn bs = gather (wordAt bs) (6 + strokeCount bs) (pointCount bs)
 
--- the mode is 1 to 3
+-- the number of the mode in an answer, 0 where there is none
+abbrev pub numberIn : List Mode → ℕ
+numberIn [] = 0
+numberIn (m ∷ ms) = modeNumber m
+
+-- the number that is stored of a mode number: that of the mode that it stands for, 0 where it stands for none
+unfoldable pub modeWord : ℕ → ℕ
+modeWord n = numberIn (modeBy n zero64 .values)
+
+-- a number that is stored of some mode: 0 is not
 unfoldable pub modeGood : ℕ → Bool
-modeGood m = leb 1 m && leb m 3
+modeGood m = ltb 0 m && eqb (modeWord m) m
 
 -- vertices, strokes and points within their limits
 unfoldable pub countsGood : ℕ → ℕ → ℕ → Bool

@@ -1,4 +1,7 @@
-// What writing and reading a sheet share: words in bytes, the lowest byte first, and the limits of counts.
+// What writing and reading a sheet share: words in bytes, the lowest byte first, the numbers of the modes, and the limits of counts.
+use mesh_mode::Moded;
+use mesh_mode::mode_of;
+use mesh_mode::number_of;
 use refusal::MOST_POINTS;
 use refusal::MOST_STROKES;
 use refusal::MOST_VERTICES;
@@ -6,7 +9,7 @@ ghost use mathlib.Core.Path.{_≡_};
 ghost use Prim.Native.Nat.{_*_, _<_};
 ghost use lib.ListN.{getD, set};
 ghost use lib.Seq.{sets};
-ghost use Rattle.sheet.specs.Sheets.{bytesOf, wordAt, countsGood};
+ghost use Rattle.sheet.specs.Sheets.{bytesOf, wordAt, modeWord, countsGood};
 
 // The byte at place i, 0 past the end.
 fn byte_at(bytes: &[u8], i: usize) -> u32
@@ -53,6 +56,17 @@ pub fn put_word(out: &mut [u8], k: usize, w: u32)
         put_byte(out, i + 1, (w / 256 % 256) as u8);
         put_byte(out, i + 2, (w / 256 / 256 % 256) as u8);
         put_byte(out, i + 3, (w / 256 / 256 / 256 % 256) as u8);
+    }
+}
+
+// The number that a sheet stores of a mode number, 0 where no mode has it. The cosine is not stored, so any will do.
+pub fn mode_word(mode: u32) -> u32
+    ensures { λ r. ⌜ r ≡ modeWord mode ⌝ }
+{
+    let m = mode_of(mode, 0.0);
+    match m {
+        Moded::Of(it) => number_of(it),
+        Moded::Refused(_) => 0,
     }
 }
 

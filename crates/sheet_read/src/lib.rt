@@ -3,6 +3,7 @@ use path::put_number;
 use refusal::Refusal;
 use refusal::Verdict;
 use sheet::counts_good;
+use sheet::mode_word;
 use sheet::word_at;
 ghost use mathlib.Core.Path.{_≡_};
 ghost use Prim.Native.Nat.{_-_, _≤_};
@@ -24,14 +25,14 @@ pub enum SheetRead {
     Refused(Refusal),
 }
 
-// Whether a mode's number is 1 to 3.
+// Whether a number is stored of some mode.
 fn mode_good(mode: u32) -> bool
     ensures { λ r. ⌜ r ≡ modeGood mode ⌝ }
 {
-    if mode < 1 {
+    if mode == 0 {
         return false;
     }
-    mode <= 3
+    mode_word(mode) == mode
 }
 
 // Whether starts and numbers begin where they must, and the bytes end with them.

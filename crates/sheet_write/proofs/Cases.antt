@@ -5,8 +5,8 @@ use Rattle.refusal.specs.Refusals.{unless}
 use Rattle.path.specs.Strokes.{goodFrom, goodStarts, gather, strokesOf}
 use Rattle.path.specs.Laid.{over, nonEmpty, joined, startsFrom}
 use Rattle.mesh.specs.Meshes.{allBelow}
-use Rattle.sheet.specs.Sheets.{bytesOf, bytesAll, headerOf, sheetOf, countsGood}
-use Rattle.sheet_write.specs.Write.{modeWord, verdictOf, leftBy, writeLeft}
+use Rattle.sheet.specs.Sheets.{bytesOf, bytesAll, headerOf, sheetOf, modeWord, countsGood}
+use Rattle.sheet_write.specs.Write.{verdictOf, leftBy, writeLeft}
 use Rattle.sheet_write.specs.Cases.{Holds, paper}
 
 pub cases : Each Holds paper

@@ -1,5 +1,4 @@
 pub mod Kepts
-pub mod Modes
 pub mod Calls
 pub mod Unique
 pub mod Written

@@ -14,13 +14,13 @@ use Rattle.path.specs.Laid.{nonEmpty, joined, startsFrom}
 use Rattle.path.proofs.Tests.{passed}
 use Rattle.path.proofs.Pushes.{no-more-kept}
 use Rattle.mesh.specs.Meshes.{allBelow}
-use Rattle.sheet.specs.Sheets.{strokesIn, sheetOf, modeGood, countsGood, startsIn, numbersIn}
+use Rattle.sheet.proofs.Modes.{word-good}
+use Rattle.sheet.specs.Sheets.{modeWord, strokesIn, sheetOf, modeGood, countsGood, startsIn, numbersIn}
 use Rattle.sheet.proofs.Sizes.{limits}
 use Rattle.sheet.proofs.Tables.{joined-all, strokes-count}
 use Rattle.sheet.proofs.Back.{Readable, sheet-back, read-back}
-use Rattle.sheet_write.specs.Write.{modeWord, verdictOf}
+use Rattle.sheet_write.specs.Write.{verdictOf}
 use Rattle.sheet_write.proofs.Calls.{granted}
-use Rattle.sheet_write.proofs.Modes.{word-most}
 
 module _ (mode vertices : ℕ) (ns ss : List ℕ) (room : ℕ) (h : verdictOf mode vertices ns ss room ≡ Accepted) where
   abbrev All : List (List ℕ)
@@ -41,13 +41,12 @@ module _ (mode vertices : ℕ) (ns ss : List ℕ) (room : ℕ) (h : verdictOf mo
       rw (joined-all ns ss (shape .0)) (passed _ _ _ (count .1) .0)
 
   mode-good : modeGood (modeWord mode) ≡ true
-  unfolding verdictOf modeGood
+  unfolding verdictOf
   mode-good =
       let shape = passed _ _ _ h in
       let count = passed _ _ _ (shape .1) in
       let vertex = passed _ _ _ (count .1) in
-      let l = ltb-true 0 (modeWord mode) (passed _ _ _ (vertex .1) .0) in
-      rw (le-leb 1 (modeWord mode) (omega arith), le-leb (modeWord mode) 3 (word-most mode))
+      word-good mode (passed _ _ _ (vertex .1) .0)
 
   counts-good : countsGood vertices (length (nonEmpty All)) (length (joined All)) ≡ true
   unfolding countsGood

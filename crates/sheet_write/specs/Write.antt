@@ -8,24 +8,12 @@ use Rattle.refusal.specs.declared.Verdict.{Verdict}
 use Rattle.refusal.specs.declared.Verdict.the-variants.{Accepted, Refused}
 use Rattle.refusal.specs.Refusals.{unless}
 use Rattle.refusal.specs.Said.{Said, accepted, refused}
-use Rattle.vector.specs.Lengths.{zero64}
 use Rattle.path.specs.Strokes.{goodStarts}
 use Rattle.path.specs.Laid.{over, nonEmpty}
 use Rattle.mesh.specs.Meshes.{allBelow}
-use Rattle.mesh_mode.specs.declared.Mode.{Mode}
-use Rattle.mesh_mode.specs.Modes.{modeBy, modeNumber}
-use Rattle.sheet.specs.Sheets.{strokesIn, sheetOf, sizeOf, countsGood}
+use Rattle.sheet.specs.Sheets.{modeWord, strokesIn, sheetOf, sizeOf, countsGood}
 use Rattle.sheet_write.specs.declared.SheetWritten.{SheetWritten}
 use Rattle.sheet_write.specs.declared.SheetWritten.the-variants as W
-
--- the number of the mode in an answer, 0 where there is none
-abbrev pub numberIn : List Mode → ℕ
-numberIn [] = 0
-numberIn (m ∷ ms) = modeNumber m
-
--- the number that is stored of a mode number: that of the mode that it stands for, 0 where it stands for none
-unfoldable pub modeWord : ℕ → ℕ
-modeWord n = numberIn (modeBy n zero64 .values)
 
 -- the lowest refusal that applies: a table of starts, the limits, numbers below the vertex count, a mode, and room for the whole sheet
 unfoldable pub verdictOf : ℕ → ℕ → List ℕ → List ℕ → ℕ → Verdict

@@ -1,13 +1,11 @@
 // Writing strokes of vertex numbers as a sheet.
 use mesh::all_below;
-use mesh_mode::Moded;
-use mesh_mode::mode_of;
-use mesh_mode::number_of;
 use path::end_of;
 use path::rising;
 use refusal::Refusal;
 use refusal::Verdict;
 use sheet::counts_good;
+use sheet::mode_word;
 use sheet::put_word;
 ghost use mathlib.Core.Path.{_≡_};
 ghost use Prim.Native.Nat.{_+_, _*_, _<_, _≤_};
@@ -15,25 +13,14 @@ ghost use lib.ListN.{length, getD};
 ghost use lib.Seq.{sets};
 ghost use lib.Dec.{leb, ltb};
 ghost use Rattle.refusal.specs.Limits.{mostStrokes, mostPoints};
-ghost use Rattle.sheet.specs.Sheets.{bytesAll, headerOf, wordsOf, sizeOf};
+ghost use Rattle.sheet.specs.Sheets.{modeWord, bytesAll, headerOf, wordsOf, sizeOf};
 ghost use Rattle.sheet.specs.Kept.{keptAt, keptFrom};
-ghost use Rattle.sheet_write.specs.Write.{modeWord, verdictOf, said, left, writeLeft};
+ghost use Rattle.sheet_write.specs.Write.{verdictOf, said, left, writeLeft};
 
 // What writing a sheet answers: how many bytes were written, or why none were.
 pub enum SheetWritten {
     Wrote { bytes: usize },
     Refused(Refusal),
-}
-
-// The number that a sheet stores of a mode number, 0 where no mode has it. The cosine is not stored, so any will do.
-fn mode_word(mode: u32) -> u32
-    ensures { λ r. ⌜ r ≡ modeWord mode ⌝ }
-{
-    let m = mode_of(mode, 0.0);
-    match m {
-        Moded::Of(it) => number_of(it),
-        Moded::Refused(_) => 0,
-    }
 }
 
 // Whether stroke i has points.

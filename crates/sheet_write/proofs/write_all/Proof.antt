@@ -5,7 +5,7 @@ use lib.ListN.{length}
 use lib.Seq.{sets}
 use Rattle.sheet.specs.Sheets.{bytesAll, headerOf, sizeOf}
 use Rattle.sheet.specs.Kept.{keptFrom}
-use Rattle.sheet_write.specs.Write.{modeWord}
+use Rattle.sheet.specs.Sheets.{modeWord}
 use Rattle.sheet_write.proofs.Calls.{all-put}
 use borrow.Author.Needs.{needs}
 use Rattle.sheet_write.proofs.write_all.Statement.{statement}

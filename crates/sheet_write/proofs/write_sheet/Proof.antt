@@ -4,7 +4,8 @@ use native.Mathlib.Omega.{arith}
 use lib.ListN.{length}
 use Rattle.sheet.proofs.Sizes.{words-size}
 use Rattle.sheet.specs.Kept.{keptFrom}
-use Rattle.sheet_write.specs.Write.{modeWord, writeLeft}
+use Rattle.sheet.specs.Sheets.{modeWord}
+use Rattle.sheet_write.specs.Write.{writeLeft}
 use Rattle.sheet_write.proofs.Calls.{granted, sheet-is, refuse, accept}
 use borrow.Author.Needs.{needs}
 use Rattle.sheet_write.proofs.write_sheet.Statement.{statement}

@@ -1,9 +1,9 @@
 -- `mode_word` meets its contract: the number comes from the mode that the number stands for.
 use mathlib.Core.Path.{_∙_}
-use Rattle.sheet_write.proofs.Modes.{some-mode, no-mode}
+use Rattle.sheet.proofs.Modes.{some-mode, no-mode}
 use borrow.Author.Needs.{needs}
-use Rattle.sheet_write.proofs.mode_word.Statement.{statement}
-use Rattle.sheet_write.proofs.mode_word.Tie as tie
+use Rattle.sheet.proofs.mode_word.Statement.{statement}
+use Rattle.sheet.proofs.mode_word.Tie as tie
 
 mode-of-requires : tie.Need-mode-of-requires
 mode-of-requires c κs = search needs
