@@ -1,7 +1,7 @@
 -- What the proofs of `sqrt` and of its steps cite.
 use mathlib.Core.Path.{_≡_, refl, sym, ap, _∙_, subst}
 use mathlib.Core.Logic.{_⊎_, inl, inr, ⊎-elim}
-use lib.Dec.{T, ltb, ltb→lt, nltb→le}
+use lib.Dec.{T, ltb, ltb→lt, nltb→le, lit<, lit≤}
 use mathlib.Core.Bool.{Bool, true, false, not, cond}
 use Prim.Native.Nat.{ℕ, zero, suc, _+_, _-_, _*_, _/_, _%_, _^_, _≤_, _<_}
 use native.Mathlib.Nat.{eq-or-lt-of-le, le-of-lt, lt-of-mul-lt-mul-right, mul-le-mul, mul-mul-mul-comm, not-le-of-lt, mul-pos, mul-lt-mul-of-pos-left, pow-suc, mul-comm, mul-assoc, lt-of-not-le, lt-irrefl, lt-of-le-of-lt, lt-of-lt-of-le, le-trans, le-of-eq, one-mul, mul-le-mul-left, mul-le-mul-right, mul-lt-mul-of-pos-right, mul-one, div-add-mod, mod-lt}
@@ -229,6 +229,10 @@ at-join k c l h = ⊎-elim full less (eq-or-lt-of-le h)
         at-high (k * 2 ^ 52 + c) (suc k) (omega arith) ∙ ap (λ (x : ℕ). x * 2 ^ suc k) p
         ∙ shift-to 1 52 (suc k) (53 + k) (omega arith) ∙ sym (shift-to 1 53 k (53 + k) refl) ∙ ap (λ (x : ℕ). x * 2 ^ k) (sym e)
 
+-- what `root_bits` ensures: r is a pattern below infinity's, nearest to the root of N units
+abbrev pub RootAt : ℕ → ℕ → Type 0
+RootAt N r = (r < 2047 * 2 ^ 52) × NearestUnits N (at r)
+
 -- n has 53 or 54 digits, and the number's value is n * 2 ^ (2 * h), in the scale of `split`
 module _ (N n h s : ℕ) (least : 2 ^ 52 ≤ n) (most : n < 2 ^ 54) (few : s < 2 ^ 54) (r : Digits (n * 2 ^ 54) s) (low : 486 ≤ h) (high : h ≤ 1534) (same : N * 2 ^ 1024 ≡ n * 2 ^ (2 * h)) where
   big : 2 ^ 53 ≤ s
@@ -246,7 +250,7 @@ module _ (N n h s : ℕ) (least : 2 ^ 52 ≤ n) (most : n < 2 ^ 54) (few : s < 2
       ∙ ap (λ (x : ℕ). x * 2 ^ (h - 1)) (sym (shift-to n 54 (h - 1) (54 + (h - 1)) refl))
       ∙ mul-assoc (n * 2 ^ 54) (2 ^ (h - 1)) (2 ^ (h - 1))
 
-  pub joined : ((h - 1) * 2 ^ 52 + (s + 1) / 2 < 2047 * 2 ^ 52) × NearestUnits N (at ((h - 1) * 2 ^ 52 + (s + 1) / 2))
+  pub joined : RootAt N ((h - 1) * 2 ^ 52 + (s + 1) / 2)
   joined =
       let c = (s + 1) / 2 in
       let b = big in
@@ -303,26 +307,26 @@ module _ (N n h s : ℕ) (least : 2 ^ 52 ≤ n) (most : n < 2 ^ 54) (few : s < 2
 
 -- the two ways of `root_bits`: an even exponent, and an odd one, which takes one digit more
 pub by-even : (N d e s : ℕ) → Normal N d e → e % 2 ≡ 0 → s < 2 ^ 54 → Digits (d * 2 ^ 54) s
-    → ((e / 2 - 1) * 2 ^ 52 + (s + 1) / 2 < 2047 * 2 ^ 52) × NearestUnits N (at ((e / 2 - 1) * 2 ^ 52 + (s + 1) / 2))
+    → RootAt N ((e / 2 - 1) * 2 ^ 52 + (s + 1) / 2)
 by-even N d e s n p f r =
     let q : e ≡ 2 * (e / 2) = omega arith in
     joined N d (e / 2) s (n .least) (omega (arith, n .most)) f r (omega (arith, n .low)) (omega (arith, n .high)) (n .same ∙ ap (λ (x : ℕ). d * 2 ^ x) q)
 
 pub by-odd : (N d e s : ℕ) → Normal N d e → (e % 2 ≡ 0 → ⊥) → s < 2 ^ 54 → Digits (d * 2 * 2 ^ 54) s
-    → ((e / 2 - 1) * 2 ^ 52 + (s + 1) / 2 < 2047 * 2 ^ 52) × NearestUnits N (at ((e / 2 - 1) * 2 ^ 52 + (s + 1) / 2))
+    → RootAt N ((e / 2 - 1) * 2 ^ 52 + (s + 1) / 2)
 by-odd N d e s n p f r =
     let q : 1 + 2 * (e / 2) ≡ e = omega arith in
     joined N (d * 2) (e / 2) s (omega (arith, n .least)) (omega (arith, n .most)) f r (omega (arith, n .low)) (omega (arith, n .high))
     (n .same ∙ sym (shift-to d 1 (2 * (e / 2)) e q))
 
 pub by-parity : (N d e s : ℕ) → Normal N d e → s < 2 ^ 54 → Digits (d * (1 + e % 2) * 2 ^ 54) s
-    → ((e / 2 - 1) * 2 ^ 52 + (s + 1) / 2 < 2047 * 2 ^ 52) × NearestUnits N (at ((e / 2 - 1) * 2 ^ 52 + (s + 1) / 2))
+    → RootAt N ((e / 2 - 1) * 2 ^ 52 + (s + 1) / 2)
 by-parity N d e s n f r = ⊎-elim odd even (lt-or-ge 0 (e % 2))
   where
-    odd : 0 < e % 2 → ((e / 2 - 1) * 2 ^ 52 + (s + 1) / 2 < 2047 * 2 ^ 52) × NearestUnits N (at ((e / 2 - 1) * 2 ^ 52 + (s + 1) / 2))
+    odd : 0 < e % 2 → RootAt N ((e / 2 - 1) * 2 ^ 52 + (s + 1) / 2)
     odd p = let o : 1 + e % 2 ≡ 2 = omega arith in by-odd N d e s n (λ z. omega arith) f (rw o at r)
 
-    even : e % 2 ≤ 0 → ((e / 2 - 1) * 2 ^ 52 + (s + 1) / 2 < 2047 * 2 ^ 52) × NearestUnits N (at ((e / 2 - 1) * 2 ^ 52 + (s + 1) / 2))
+    even : e % 2 ≤ 0 → RootAt N ((e / 2 - 1) * 2 ^ 52 + (s + 1) / 2)
     even p =
         let z : e % 2 ≡ 0 = omega arith in
         let o : d * (1 + e % 2) ≡ d = rw z (mul-one d) in
@@ -334,3 +338,48 @@ twice d e l h =
     let p : 1 ≤ 1 + e % 2 = omega arith in
     let i = mul-le-mul-left d p in
     (omega arith, lt-of-le-of-lt (mul-le-mul-left d o) (omega arith))
+
+-- ---- next to 1.0
+
+-- D is less than the square of s + 1, by so little that it is no less than that of s
+short-of : (D s k : ℕ) → D + k * k ≡ (s + 1) * (s + 1) → 0 < k → k * k ≤ 2 * s + 1 → Digits D s
+short-of D s k e p h = record { not-above = omega arith; next-above = omega (arith, mul-pos p p) }
+
+-- from 1.0 to 2.0 and from 0.5 to 1.0, by the digits of the root
+from-one : (c s : ℕ) → 2 ^ 52 ≤ c → c ≤ 2 ^ 53 → s < 2 ^ 54 → Digits (c * 2 ^ 54) s → RootAt (at (1022 * 2 ^ 52 + c)) (1022 * 2 ^ 52 + (s + 1) / 2)
+from-one c s l h f r =
+    joined (at (1022 * 2 ^ 52 + c)) c 1023 s l (lt-of-le-of-lt h (lit< tt)) f r (lit≤ tt) (lit≤ tt)
+    (ap (λ (x : ℕ). x * 2 ^ 1024) (at-join 1022 c l h) ∙ shift-to c 1022 1024 2046 refl)
+
+to-one : (c s : ℕ) → 2 ^ 52 ≤ c → c < 2 ^ 53 → s < 2 ^ 54 → Digits (c * 2 * 2 ^ 54) s → RootAt (at (1021 * 2 ^ 52 + c)) (1021 * 2 ^ 52 + (s + 1) / 2)
+to-one c s l h f r =
+    joined (at (1021 * 2 ^ 52 + c)) (c * 2) 1022 s (omega (arith, l)) (omega (arith, h)) f r (lit≤ tt) (lit≤ tt)
+    (ap (λ (x : ℕ). x * 2 ^ 1024) (at-join 1021 c l (le-of-lt h)) ∙ shift-to c 1021 1024 2045 refl ∙ sym (shift-to c 1 2044 2045 refl))
+
+-- k patterns above 1.0, and below it: the square of what is half as far is larger by the square of k
+above-one : (k : ℕ) → k < 2 ^ 26 → RootAt (at (1022 * 2 ^ 52 + (2 ^ 52 + k))) (1022 * 2 ^ 52 + (2 ^ 53 + k) / 2)
+above-one zero l = from-one (2 ^ 52) (2 ^ 53) (lit≤ tt) (lit≤ tt) (lit< tt) (record { not-above = lit≤ tt; next-above = lit< tt })
+above-one (suc j) l =
+    let m = mul-le-mul (le-of-lt l) (le-of-lt l) in
+    let e : 2 ^ 53 + suc j ≡ 2 ^ 53 + j + 1 = omega arith in
+    rw e
+    (from-one (2 ^ 52 + suc j) (2 ^ 53 + j) (omega arith) (omega arith) (omega arith)
+    (short-of ((2 ^ 52 + suc j) * 2 ^ 54) (2 ^ 53 + j) (suc j) (omega arith) (omega arith) (omega (arith, m))))
+
+below-one : (k c : ℕ) → 0 < k → k ≤ 2 ^ 26 → c + k ≡ 2 ^ 53 → RootAt (at (1021 * 2 ^ 52 + c)) (1021 * 2 ^ 52 + (c + (2 ^ 53 - 1) + 1) / 2)
+below-one k c p l e =
+    to-one c (c + (2 ^ 53 - 1)) (omega arith) (omega arith) (omega arith)
+    (short-of (c * 2 * 2 ^ 54) (c + (2 ^ 53 - 1)) k (omega (arith, ap (λ (x : ℕ). x * c) e, ap (λ (x : ℕ). x * k) e)) p (omega (arith, mul-le-mul l l)))
+
+-- next to 1.0 the root is half as far from it, rounded down
+pub near-one : (b : ℕ) → 1023 * 2 ^ 52 ≤ b + 2 ^ 26 → b < 1023 * 2 ^ 52 + 2 ^ 26 → RootAt (at b) ((b + 1023 * 2 ^ 52) / 2)
+near-one b l h = ⊎-elim below above (lt-or-ge b (1023 * 2 ^ 52))
+  where
+    same : {a r : ℕ} → a ≡ b → r ≡ (b + 1023 * 2 ^ 52) / 2 → RootAt (at a) r → RootAt (at b) ((b + 1023 * 2 ^ 52) / 2)
+    same {r = r} e q x = subst (λ (y : ℕ). RootAt (at b) y) q (subst (λ (y : ℕ). RootAt (at y) r) e x)
+
+    above : 1023 * 2 ^ 52 ≤ b → RootAt (at b) ((b + 1023 * 2 ^ 52) / 2)
+    above g = same (omega arith) (omega arith) (above-one (b - 1023 * 2 ^ 52) (omega arith))
+
+    below : b < 1023 * 2 ^ 52 → RootAt (at b) ((b + 1023 * 2 ^ 52) / 2)
+    below g = same (omega arith) (omega arith) (below-one (1023 * 2 ^ 52 - b) (b - 1021 * 2 ^ 52) (omega arith) (omega arith) (omega arith))

@@ -138,12 +138,25 @@ fn split(b: u64) -> Scaled
     Scaled { d, e }
 }
 
+// The pattern of the root of a number next to 1.0, by the number's pattern: half as far from that of 1.0, rounded down.
+// The square of what is half as far is larger by the square of the distance, too little for the last place.
+fn root_bits_near_one(b: u64) -> u64
+    requires { ⌜ (1023 * 2 ^ 52 ≤ b + 2 ^ 26) × (b < 1023 * 2 ^ 52 + 2 ^ 26) ⌝ }
+    ensures { λ r. ⌜ (r < 2047 * 2 ^ 52) × NearestUnits (at b) (at r) ⌝ }
+{
+    (b + 0x3ff0_0000_0000_0000) / 2
+}
+
 // The pattern of the root of a positive number, by the number's pattern: half the exponent, and
-// the digits of the root with one more than fit, rounded. Halfway never happens.
+// the digits of the root with one more than fit, rounded. Halfway never happens. Within 2^26 patterns of 1.0,
+// as for a vector that was normalised before, no digits are needed.
 fn root_bits(b: u64) -> u64
     requires { ⌜ (0 < b) × (b < 2047 * 2 ^ 52) ⌝ }
     ensures { λ r. ⌜ (r < 2047 * 2 ^ 52) × NearestUnits (at b) (at r) ⌝ }
 {
+    if (b + 0x400_0000) / 0x800_0000 == 0x7_fe00_0000 {
+        return root_bits_near_one(b);
+    }
     let s = split(b);
     let e = s.e;
     let n = s.d * (1 + e % 2); // an odd exponent takes one digit more
