@@ -58,18 +58,22 @@ struct Scaled {
     e: u64,
 }
 
-// A guess at the root of n: three of Newton's steps towards 1 / root, from a parabola near it. Nothing
-// is promised of it but that it is small; `lower` and `raise` mend it, and seldom have more than one to mend.
+// A guess at the root of n: y, a product of two parabolas, is near 1 / root, and t near half the root; two of Newton's
+// steps take both nearer at once. Nothing is promised of it but that it is small; `lower` and `raise` mend it, and
+// seldom have one to mend.
 fn guess(n: u64) -> u64
     requires { ⌜ n < 2 ^ 54 ⌝ }
     ensures { λ r. ⌜ r < 2 ^ 28 ⌝ }
 {
-    let h = (n / 2) as f64 / 4503599627370496.0;
-    let mut y = 1.3355 - h * (0.8215 - h * 0.205);
-    y = y * (1.5 - h * y * y);
-    y = y * (1.5 - h * y * y);
-    y = y * (1.5 - h * y * y);
-    let z = h * y * 134217728.0 + 4503599627370495.5; // its last digits are those of the guess
+    let m = (n / 2) as f64;
+    let h = m / 4503599627370496.0;
+    let u = m * 0.00000000000000013 - 1.495;
+    let v = m * 0.00000000000000013 - 0.343;
+    let y = (u * u + 0.294) * (v * v + 0.571);
+    let t = h * y;
+    let c = 1.5 - t * y;
+    let r = t * c;
+    let z = r * 134217728.0 * (1.5 - r * (y * c)) + 4503599627370495.5; // its last digits are those of the guess
     if z > 0.0 {
         return f64::to_bits(z) % 0x1000_0000;
     }
