@@ -1,12 +1,13 @@
 -- The loop over the faces, and what a section has been tested for.
 use mathlib.Core.Path.{_≡_, refl, sym, ap, _∙_}
+use mathlib.Core.Bool.{true}
 use mathlib.Core.List.{List, [], _∷_, _++_}
 use Prim.Native.Nat.{ℕ, zero, suc, _+_, _-_, _*_, _/_, _≤_, _<_}
 use native.Mathlib.Omega.{arith}
 use lib.ListN.{length, set, length-append}
 use lib.Dec.{leb}
 use lib.Ieee.{Float}
-use borrow.Author.Tests.{leb-true}
+use borrow.Author.Tests.{leb-true, le-leb}
 use Rattle.refusal.specs.Limits.{mostFaces, mostVertices}
 use Rattle.refusal.specs.declared.Verdict.the-variants.{Accepted}
 use Rattle.vector.specs.declared.Vector.{Vector}
@@ -15,7 +16,7 @@ use Rattle.path.specs.Laid.{out, push, putPoint, putPoints, joined, nonEmpty}
 use Rattle.path.proofs.Pushes.{no-more-kept}
 use Rattle.path.proofs.Tests.{passed, both}
 use Rattle.mesh.specs.declared.Triangle.{Triangle}
-use Rattle.mesh.specs.Meshes.{countedOf}
+use Rattle.mesh.specs.Meshes.{countedOf, reachOf}
 use Rattle.mesh_section.specs.declared.Plane.{Plane}
 use Rattle.mesh_section.specs.declared.Cut.{Cut}
 use Rattle.mesh_section.specs.declared.Cut.the-variants.{Of, Nothing}
@@ -77,3 +78,11 @@ fitting vs is p tolerance room startRoom h =
     let number = passed _ _ _ (vertex .1) in
     let fits = both (leb (length is / 3 * 6) room) (leb (length is / 3) startRoom) (passed _ _ _ (number .1) .0) in
     (leb-true _ _ (both (leb (length vs / 3) mostVertices) (leb (length is / 3) mostFaces) (count .0) .1), leb-true _ _ (fits .0), leb-true _ _ (fits .1))
+
+-- all faces are there with all their corners
+pub reaching : (vs : List Float) (is : List ℕ) (p : Plane) (tolerance : Float) (room startRoom : ℕ) → verdictOf vs is p tolerance room startRoom ≡ Accepted
+    → reachOf (length vs / 3) is (length is / 3) ≡ true
+unfolding verdictOf reachOf
+reaching vs is p tolerance room startRoom h =
+    let vertex = passed _ _ _ (passed _ _ _ (passed _ _ _ h .1) .1) in
+    rw (le-leb (length is / 3 * 3) (length is) (omega arith), vertex .0)

@@ -2,7 +2,6 @@
 use mesh::Triangle;
 use mesh::all_below;
 use mesh::counted;
-use mesh::face_at;
 use mesh::shaped;
 use mesh::vector_good;
 use path::Place;
@@ -14,8 +13,10 @@ use refusal::Refusal;
 use refusal::Verdict;
 use vector::Vector;
 ghost use mathlib.Core.Path.{_≡_};
-ghost use Prim.Native.Nat.{_+_, _≤_};
-ghost use Rattle.mesh.specs.Meshes.{faceAt};
+ghost use mathlib.Core.Bool.{true};
+ghost use Prim.Native.Nat.{_+_, _*_, _/_, _≤_, _<_};
+ghost use lib.ListN.{length, getD};
+ghost use Rattle.mesh.specs.Meshes.{cornerAt, faceAt, reachOf};
 ghost use Rattle.path.specs.Laid.{out, push, pushAll, putPoints};
 ghost use Rattle.path.specs.Left.{left};
 ghost use Rattle.mesh_section.specs.Section.{segmentHit, runsAlong, within, twoOf, triangleCut, cutStroke, facesCut};
@@ -140,7 +141,33 @@ fn write_cut(c: Cut, out_points: &mut [f64], out_starts: &mut [u32], p: Place) -
     }
 }
 
-// Writes the strokes of the first n faces.
+// The vertex of corner k, read with no test: the caller has tested that both are there.
+fn corner_in(vertices: &[f64], indices: &[u32], k: usize) -> Vector
+    requires { ⌜ (k < length (now indices)) × (getD (now indices) k 0 < length (now vertices) / 3) ⌝ }
+    ensures { λ r. ⌜ r ≡ cornerAt (now (vertices .entry)) (now (indices .entry)) k ⌝ }
+{
+    let i = indices[k] as usize * 3;
+    Vector {
+        x: vertices[i],
+        y: vertices[i + 1],
+        z: vertices[i + 2],
+    }
+}
+
+// The corners of face f, one of the first n, all of which are there.
+fn face_in(vertices: &[f64], indices: &[u32], n: u32, f: u32) -> Triangle
+    requires { ⌜ (f < n) × (reachOf (length (now vertices) / 3) (now indices) n ≡ true) ⌝ }
+    ensures { λ r. ⌜ r ≡ faceAt (now (vertices .entry)) (now (indices .entry)) f ⌝ }
+{
+    let k = f as usize * 3;
+    Triangle {
+        v1: corner_in(vertices, indices, k),
+        v2: corner_in(vertices, indices, k + 1),
+        v3: corner_in(vertices, indices, k + 2),
+    }
+}
+
+// Writes the strokes of the first n faces, which are there with all their corners.
 fn write_faces(
     vertices: &[f64],
     indices: &[u32],
@@ -151,6 +178,7 @@ fn write_faces(
     out_starts: &mut [u32],
 ) -> Place
     requires { ⌜ n ≤ 65536 ⌝ }
+    requires { ⌜ reachOf (length (now vertices) / 3) (now indices) n ≡ true ⌝ }
     ensures { λ r. ⌜ out (now («out_points» .exit)) (now («out_starts» .exit)) r
         ≡ pushAll putPoints (out (now («out_points» .entry)) (now («out_starts» .entry)) (record { points = 0; starts = 0 }))
         (facesCut (faceAt (now (vertices .entry)) (now (indices .entry))) plane tolerance 0 n) ⌝ }
@@ -161,7 +189,7 @@ fn write_faces(
     };
     let mut f: u32 = 0;
     while f < n {
-        let c = plane.intersect_triangle(face_at(vertices, indices, f), tolerance);
+        let c = plane.intersect_triangle(face_in(vertices, indices, n, f), tolerance);
         p = write_cut(c, out_points, out_starts, p);
         f += 1;
     }

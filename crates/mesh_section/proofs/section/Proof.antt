@@ -6,7 +6,7 @@ use Rattle.path.proofs.Lefts.{accept, refuse}
 use Rattle.mesh.specs.Meshes.{faceAt}
 use Rattle.mesh_section.specs.Section.{sectionOf}
 use Rattle.mesh_section.specs.Call.{sectionLeft}
-use Rattle.mesh_section.proofs.Faces.{fitting, faces-fit}
+use Rattle.mesh_section.proofs.Faces.{fitting, faces-fit, reaching}
 use borrow.Author.Needs.{needs}
 use Rattle.mesh_section.proofs.section.Statement.{statement}
 use Rattle.mesh_section.proofs.section.Tie as tie
@@ -24,7 +24,11 @@ cast-n : tie.Need-cast-n
 cast-n c = let a = c .before .before .before .before .before .before .before .args in let h = fitting (a .vertices .now) (a .indices .now) (a .plane) (a .tolerance) _ _ (sym (c .before .before .section-verdict .ensures) ∙ c .enum-told .given .1) in record { fits = omega arith }
 
 write-faces-requires : tie.Need-write-faces-requires
-write-faces-requires c κs = let a = c .before .before .before .before .before .before .before .before .before .args in let h = fitting (a .vertices .now) (a .indices .now) (a .plane) (a .tolerance) _ _ (sym (c .before .before .before .before .section-verdict .ensures) ∙ c .before .before .enum-told .given .1) in omega arith
+write-faces-requires c κs =
+    let a = c .before .before .before .before .before .before .before .before .before .args in
+    let z = sym (c .before .before .before .before .section-verdict .ensures) ∙ c .before .before .enum-told .given .1 in
+    let h = fitting (a .vertices .now) (a .indices .now) (a .plane) (a .tolerance) _ _ z in
+    (omega (arith, h .0), reaching (a .vertices .now) (a .indices .now) (a .plane) (a .tolerance) _ _ z)
 
 returns : tie.Need-returns
 unfolding sectionLeft

@@ -25,8 +25,8 @@ abbrev μ-loop : tie.MeasureT-loop
 loop-holds : tie.Need-loop-holds Inv-loop μ-loop
 loop-holds c = let e : c .before .before .before .before .args .n - 0 ≡ c .before .before .before .before .args .n = omega arith in (omega arith, omega arith, omega arith, refl, refl, rw e)
 
-face-at-requires : tie.Need-face-at-requires Inv-loop μ-loop
-face-at-requires c κs = search needs
+face-in-requires : tie.Need-face-in-requires Inv-loop μ-loop
+face-in-requires c κs = (c .loop-test .taken, c .before .before .before .before .before .before .pre .1)
 
 intersect-triangle-requires : tie.Need-intersect-triangle-requires Inv-loop μ-loop
 intersect-triangle-requires c κs = search needs
@@ -47,7 +47,7 @@ loop-again c =
     let t = c .before .before .before .before .before .before .before .before .before .loop-test .taken in
     let w = c .before .before .before .before .write-cut .ensures in
     let o = out (l .out-points) (l .out-starts) (l .p) in
-    let e = w .0 ∙ ap (λ (x : Cut). push putPoints o (cutStroke x)) (c .before .before .before .before .before .before .before .intersect-triangle .ensures ∙ ap (triangleCut (a .plane) (a .tolerance)) (c .before .before .before .before .before .before .before .before .face-at .ensures)) in
+    let e = w .0 ∙ ap (λ (x : Cut). push putPoints o (cutStroke x)) (c .before .before .before .before .before .before .before .intersect-triangle .ensures ∙ ap (triangleCut (a .plane) (a .tolerance)) (c .before .before .before .before .before .before .before .before .face-in .ensures)) in
     (omega arith, omega arith, omega arith, cc, cc, push-turn putPoints o _ (faces-more (faceAt (a .vertices .now) (a .indices .now)) (a .plane) (a .tolerance) (l .f) (a .n) t) e ∙ l .inv .5)
 
 same-length : tie.Need-same-length Inv-loop μ-loop
@@ -69,7 +69,7 @@ write-faces-spec =
     Inv-loop
     μ-loop
     loop-holds
-    face-at-requires
+    face-in-requires
     intersect-triangle-requires
     write-cut-requires
     add-f
