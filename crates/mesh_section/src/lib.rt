@@ -13,9 +13,10 @@ use refusal::Refusal;
 use refusal::Verdict;
 use vector::Vector;
 ghost use mathlib.Core.Path.{_≡_};
-ghost use mathlib.Core.Bool.{true};
+ghost use mathlib.Core.Bool.{true, false};
 ghost use Prim.Native.Nat.{_+_, _*_, _/_, _≤_, _<_};
 ghost use lib.ListN.{length, getD};
+ghost use lib.Ieee.{binary64, div};
 ghost use Rattle.mesh.specs.Meshes.{cornerAt, faceAt, reachOf};
 ghost use Rattle.path.specs.Laid.{out, push, pushAll, putPoints};
 ghost use Rattle.path.specs.Left.{left};
@@ -66,8 +67,16 @@ fn runs_along(d: f64, tolerance: f64) -> bool
     false
 }
 
+// Whether n is more than twice d in size, so that n / d lies on no segment. By squares, as no sign then decides a branch.
+fn far(n: f64, d: f64) -> bool
+    ensures { λ r. ⌜ (r ≡ true → within (div binary64 n d) ≡ false) ⌝ }
+{
+    let e = d + d;
+    n * n > e * e
+}
+
 impl Plane {
-    // Where the segment from v0 to v1 meets the plane, unless it runs along it.
+    // Where the segment from v0 to v1 meets the plane, unless it runs along it. Most segments are far, and spare the division.
     fn intersect_segment(self, v0: Vector, v1: Vector, tolerance: f64) -> Hit
         ensures { λ r. ⌜ r ≡ segmentHit self tolerance v0 v1 ⌝ }
     {
@@ -75,6 +84,9 @@ impl Plane {
         let w = v0.sub(self.point);
         let d = self.normal.dot(u);
         let n = -self.normal.dot(w);
+        if far(n, d) {
+            return Hit::Nothing;
+        }
         if runs_along(d, tolerance) {
             return Hit::Nothing;
         }

@@ -9,6 +9,7 @@ pub mod RootGap
 pub mod RootSquare
 pub mod Order
 pub mod Shares
+pub mod Far
 pub mod Abs
 pub mod Segments
 pub mod Cases

@@ -36,7 +36,7 @@ eq-not-lt (fin s m e) nan h = absurd h
 eq-not-lt (fin s m e) (inf t) h = absurd h
 eq-not-lt (fin s m e) (fin t n d) h = level-not-below s t (m * up e * down d) (n * up d * down e) h
 
-le-not-lt : (x y : Float) → T (le x y) → T (not (lt y x))
+pub le-not-lt : (x y : Float) → T (le x y) → T (not (lt y x))
 unfolding le
 le-not-lt x y h = go (lt x y) (eq x y) (lt-one-way x y) (eq-not-lt x y) h
   where
@@ -65,7 +65,7 @@ unfolding ofBits lt
 no-digits e h = let z : zero * up e * 1 ≡ 0 = rw (zero-mul (up e)) refl in absurd (omega (arith, z, ltb→lt (0 * down e) (zero * up e * 1) h))
 
 -- the quotient of numbers that have digits
-digits-apart : (n : ℕ) → eqb (suc n) 0 ≡ false
+pub digits-apart : (n : ℕ) → eqb (suc n) 0 ≡ false
 digits-apart n = go (eqb (suc n) 0) (eqb→eq (suc n) 0)
   where
     go : (b : Bool) → (T b → suc n ≡ 0) → b ≡ false

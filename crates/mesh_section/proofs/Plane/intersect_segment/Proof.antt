@@ -20,8 +20,8 @@ dot-requires c κs = search needs
 dot-requires-2 : tie.Need-dot-requires-2
 dot-requires-2 c κs = search needs
 
-runs-along-requires : tie.Need-runs-along-requires
-runs-along-requires c κs = search needs
+far-requires : tie.Need-far-requires
+far-requires c κs = search needs
 
 -- the two dot products
 rise : (c : tie.After-dot2) → c .before .dot .result ≡ riseOf (c .before .before .before .before .args .self) (c .before .before .before .before .args .v0) (c .before .before .before .before .args .v1)
@@ -34,17 +34,25 @@ returns : tie.Need-returns
 returns c =
     let d = c .before .before in
     let a = d .before .before .before .before .args in
-    along (a .self) (a .tolerance) (a .v0) (a .v1) _ (rise d) (sym (c .before .runs-along .ensures) ∙ c .if1 .taken)
+    misses (a .self) (a .tolerance) (a .v0) (a .v1) _ (rise d) _ (height d) (c .before .far .ensures (c .if1 .taken))
 
-on-segment-requires : tie.Need-on-segment-requires
-on-segment-requires c κs = search needs
+runs-along-requires : tie.Need-runs-along-requires
+runs-along-requires c κs = search needs
 
 returns-2 : tie.Need-returns-2
 returns-2 c =
     let d = c .before .before .before .before in
     let a = d .before .before .before .before .args in
-    misses (a .self) (a .tolerance) (a .v0) (a .v1) _ (rise d) _ (height d) (sym (c .before .before .before .runs-along .ensures) ∙ c .before .before .if1 .left)
-    (sym (c .before .on-segment .ensures) ∙ not-true _ (c .if2 .taken))
+    along (a .self) (a .tolerance) (a .v0) (a .v1) _ (rise d) (sym (c .before .runs-along .ensures) ∙ c .if2 .taken)
+
+on-segment-requires : tie.Need-on-segment-requires
+on-segment-requires c κs = search needs
+
+returns-3 : tie.Need-returns-3
+returns-3 c =
+    let d = c .before .before .before .before .before .before in
+    let a = d .before .before .before .before .args in
+    misses (a .self) (a .tolerance) (a .v0) (a .v1) _ (rise d) _ (height d) (sym (c .before .on-segment .ensures) ∙ not-true _ (c .if3 .taken))
 
 mul-scalar-requires : tie.Need-mul-scalar-requires
 mul-scalar-requires c κs = search needs
@@ -52,13 +60,13 @@ mul-scalar-requires c κs = search needs
 add-requires : tie.Need-add-requires
 add-requires c κs = search needs
 
-returns-3 : tie.Need-returns-3
-returns-3 c =
-    let d = c .before .before .before .before .before .before in
+returns-4 : tie.Need-returns-4
+returns-4 c =
+    let d = c .before .before .before .before .before .before .before .before in
     let a = d .before .before .before .before .args in
     rw (c .add .ensures, c .before .mul-scalar .ensures, d .before .before .before .sub .ensures)
-    (hits (a .self) (a .tolerance) (a .v0) (a .v1) _ (rise d) _ (height d) (sym (c .before .before .before .before .before .runs-along .ensures) ∙ c .before .before .before .before .if1 .left)
-    (sym (c .before .before .before .on-segment .ensures) ∙ not-false _ (c .before .before .if2 .left)))
+    (hits (a .self) (a .tolerance) (a .v0) (a .v1) _ (rise d) _ (height d) (sym (c .before .before .before .before .before .runs-along .ensures) ∙ c .before .before .before .before .if2 .left)
+    (sym (c .before .before .before .on-segment .ensures) ∙ not-false _ (c .before .before .if3 .left)))
 
 pub intersect-segment-spec : {M : Type 1} → statement M
 intersect-segment-spec =
@@ -68,10 +76,12 @@ intersect-segment-spec =
     sub-requires-2
     dot-requires
     dot-requires-2
-    runs-along-requires
+    far-requires
     returns
-    on-segment-requires
+    runs-along-requires
     returns-2
+    on-segment-requires
+    returns-3
     mul-scalar-requires
     add-requires
-    returns-3)
+    returns-4)
