@@ -1,6 +1,5 @@
-// What the calls on meshes share: the corners of faces, and the tests of a mesh.
+// What the calls on meshes share: a face by its corners, and the tests of a mesh.
 use path::coordinate_good;
-use path::point_at;
 use refusal::MOST_FACES;
 use refusal::MOST_VERTICES;
 use vector::Vector;
@@ -8,35 +7,13 @@ ghost use mathlib.Core.Path.{_≡_};
 ghost use mathlib.Core.Bool.{_&&_};
 ghost use Prim.Native.Nat.{ℕ, _<_};
 ghost use lib.Dec.{ltb};
-ghost use Rattle.mesh.specs.Meshes.{cornerAt, faceAt, shapedOf, countedOf, allBelow, reachOf, vectorGood};
+ghost use Rattle.mesh.specs.Meshes.{shapedOf, countedOf, allBelow, reachOf, vectorGood};
 
 // The three corners of a face.
 pub struct Triangle {
     pub v1: Vector,
     pub v2: Vector,
     pub v3: Vector,
-}
-
-// The vertex of corner k; past the end vertex 0.
-pub fn corner_at(vertices: &[f64], indices: &[u32], k: usize) -> Vector
-    ensures { λ r. ⌜ r ≡ cornerAt (now (vertices .entry)) (now (indices .entry)) k ⌝ }
-{
-    if k < indices.len() {
-        return point_at(vertices, indices[k] as usize);
-    }
-    point_at(vertices, 0)
-}
-
-// The corners of face f, three indices a face.
-pub fn face_at(vertices: &[f64], indices: &[u32], f: u32) -> Triangle
-    ensures { λ r. ⌜ r ≡ faceAt (now (vertices .entry)) (now (indices .entry)) f ⌝ }
-{
-    let k = f as usize * 3;
-    Triangle {
-        v1: corner_at(vertices, indices, k),
-        v2: corner_at(vertices, indices, k + 1),
-        v3: corner_at(vertices, indices, k + 2),
-    }
 }
 
 // Whether so many numbers are vertices and so many indices faces, three each.
