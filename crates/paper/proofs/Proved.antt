@@ -21,28 +21,39 @@ use Rattle.sheet_write.proofs.Cases as sheets
 use Rattle.sheet_list.specs.Cases as L
 use Rattle.sheet_list.proofs.Cases as lists
 
+-- some cases, all of which hold
+record Held : Type 0 where
+  list : List Case
+  hold : Each Holds list
+
 -- the cases of one crate are cases of the paper
 among : {A : Type 0} {P : A → Type 0} (of : A → Case) → ((c : A) → P c → Holds (of c)) → (l : List A) → Each P l → Each Holds (map of l)
 among of h [] p = tt
 among of h (c ∷ l) p = (h c (p .0), among of h l (p .1))
 
-also : (a : List Case) {b : List Case} → Each Holds a → Each Holds b → Each Holds (a ++ b)
-also [] p q = q
-also (c ∷ a) p q = (p .0, also a (p .1) q)
+also : (a b : List Case) → Each Holds a → Each Holds b → Each Holds (a ++ b)
+also [] b p q = q
+also (c ∷ a) b p q = (p .0, also a b (p .1) q)
+
+abbrev and : Held → Held → Held
+and a b = record { list = a .list ++ b .list; hold = also (a .list) (b .list) (a .hold) (b .hold) }
 
 spliced-all : Each Holds splices
 unfolding splices splice links linkFrom linkEnd tie pick onward after run from pass atFree atLast chainsOf lastOf firstOf present endOf turned valueAt joinable readFrom added readChain
 spliced-all = (refl, (refl, tt))
 
+abbrev all : Held
+all =
+    and (record { list = map arithmetic N.paper; hold = among arithmetic (λ c p. p) N.paper vectors.cases })
+    (and (record { list = map welded W.paper; hold = among welded (λ c p. p) W.paper welds.cases })
+    (and (record { list = splices; hold = spliced-all })
+    (and (record { list = map drawn D.paper; hold = among drawn (λ c p. p) D.paper draws.cases })
+    (and (record { list = map cut C.paper; hold = among cut (λ c p. p) C.paper cuts.cases })
+    (and (record { list = map halved A.paper; hold = among halved (λ c p. p) A.paper halves.cases })
+    (and (record { list = map simplified S.paper; hold = among simplified (λ c p. p) S.paper simples.cases })
+    (and (record { list = map written B.paper; hold = among written (λ c p. p) B.paper sheets.cases })
+    (record { list = map listed L.paper; hold = among listed (λ c p. p) L.paper lists.cases }))))))))
+
 pub cases : Each Holds paper
 unfolding paper
-cases =
-    also (map arithmetic N.paper) (among arithmetic (λ c p. p) N.paper vectors.cases)
-    (also (map welded W.paper) (among welded (λ c p. p) W.paper welds.cases)
-    (also splices spliced-all
-    (also (map drawn D.paper) (among drawn (λ c p. p) D.paper draws.cases)
-    (also (map cut C.paper) (among cut (λ c p. p) C.paper cuts.cases)
-    (also (map halved A.paper) (among halved (λ c p. p) A.paper halves.cases)
-    (also (map simplified S.paper) (among simplified (λ c p. p) S.paper simples.cases)
-    (also (map written B.paper) (among written (λ c p. p) B.paper sheets.cases)
-    (among listed (λ c p. p) L.paper lists.cases))))))))
+cases = all .hold
