@@ -24,6 +24,9 @@ const MOST_WORDS: usize = 247;
 /// How many rows each call has.
 const ROWS: usize = 300;
 
+/// How many rows more have a span that is halved too often, which few random inputs have.
+const DEEP_ROWS: usize = 20;
+
 /// Every row of a call that `replay` is run on, the same each time.
 pub fn rows() -> Vec<String> {
     let mut random = Random::new(2);
@@ -49,6 +52,7 @@ pub fn stroke_rows() -> Vec<String> {
     let mut all = Vec::new();
     all.extend(made(&mut random, simplify_row));
     all.extend(made(&mut random, adaptive_row));
+    all.extend(made(&mut random, deep_row).into_iter().take(DEEP_ROWS));
     all
 }
 
@@ -152,7 +156,16 @@ fn simplify_row(random: &mut Random) -> Option<Vec<u64>> {
 }
 
 fn adaptive_row(random: &mut Random) -> Option<Vec<u64>> {
-    let input = adaptive::Input { lent: lent(bits(9.0)), ..adaptive::make(random) };
+    walk_row(adaptive::Input { lent: lent(bits(9.0)), ..adaptive::make(random) })
+}
+
+/// A row of status 8: steps and tolerance are so small that halving does not end in time.
+fn deep_row(random: &mut Random) -> Option<Vec<u64>> {
+    let input = adaptive::Input { lent: lent(bits(9.0)), step: 1e-30, tolerance: 1e-60, ..adaptive::make(random) };
+    walk_row(input).filter(|row| row[1] == 8)
+}
+
+fn walk_row(input: adaptive::Input) -> Option<Vec<u64>> {
     let numbers = reals(&input.matrix).chain([input.width, input.height, input.step, input.tolerance].map(bits));
     let lists = numbers.chain(reals(&input.points)).chain(words(&input.starts)).collect();
     row(2, &[input.points.len(), input.starts.len()], lists, &adaptive::judged(&input), 3)
