@@ -1,4 +1,5 @@
 pub mod Inks
 pub mod Lines
+pub mod Decimals
 pub mod Unique
 pub mod Cases

@@ -1,2 +1,3 @@
 pub mod Listing
+pub mod Decimals
 pub mod Cases
