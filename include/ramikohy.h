@@ -1,8 +1,13 @@
 /* Ramikohy's proved functions for C. A point is three doubles, a matrix sixteen, row by row.
  *
  * A function that can refuse answers a status: 0, or the number of the refusal, and then the place of its value is left
- * as it was. The others answer the value itself, or write the point to their last parameter. What is written must not
- * overlap with anything else that is lent. */
+ * as it was. The others answer the value itself, or write the point to their last parameter.
+ *
+ * Every pointer is aligned as its type asks for (8 bytes for a double or a size_t, 4 for a uint32_t). A list of length 0 may be
+ * null; nothing else may. What is written must not overlap with anything else that is lent. No function allocates, blocks, keeps a
+ * pointer or uses anything but its parameters, so each may be called from several threads at once.
+ *
+ * Stack: see each call; a function without a figure takes at most 2 kB. */
 #ifndef RAMIKOHY_H
 #define RAMIKOHY_H
 
@@ -13,8 +18,32 @@
 extern "C" {
 #endif
 
+/* Refusals. The lowest that applies is given, but for two cases: in chop_adaptive ROOM and DEEP go to whichever the walk meets first, and
+ * reading a sheet tests SHEET before ROOM. */
+#define RAMIKOHY_SHAPE 1   /* a list that is not one of triangles, points, pairs or strokes */
+#define RAMIKOHY_COUNT 2   /* a count above its limit, below */
+#define RAMIKOHY_VERTEX 3  /* a vertex number not below the vertex count */
+#define RAMIKOHY_NUMBER 4  /* a number outside its range, below, or a mode number above 3 */
+#define RAMIKOHY_SCRATCH 5 /* scratch too short */
+#define RAMIKOHY_ROOM 6    /* output too short, or a cut that would write over RAMIKOHY_MOST_POINTS */
+#define RAMIKOHY_FLAT 7    /* polygonal or silhouette: a face whose normal has computed length 0 */
+#define RAMIKOHY_DEEP 8    /* chop_adaptive would halve a span already 64 halvings deep */
+#define RAMIKOHY_SHEET 9   /* bytes that are not a sheet */
+
 /* The status that says that there is none. No refusal has this number. */
 #define RAMIKOHY_NONE 255
+
+/* Limits of counts. */
+#define RAMIKOHY_MOST_FACES 65536
+#define RAMIKOHY_MOST_VERTICES 196608
+#define RAMIKOHY_MOST_STROKES 196608
+#define RAMIKOHY_MOST_POINTS 1048576
+#define RAMIKOHY_MOST_TO_SIMPLIFY 4096 /* the points of a stroke */
+
+/* Ranges of numbers; no NaN in any. Coordinates, eye, plane and matrix entries: of magnitude at most RAMIKOHY_MOST_NUMBER. Steps: above 0, at
+ * most that. Width and height: 0 to that. Tolerance: above 0, below 1. Threshold: 0 or more. cos_theta: any. Floor: of magnitude below
+ * 2^53. Root: 0 (of either sign) or more. */
+#define RAMIKOHY_MOST_NUMBER 1048576.0
 
 uint32_t ramikohy_floor(double x, int64_t *whole);
 uint32_t ramikohy_sqrt(double x, double *root);

@@ -1,5 +1,6 @@
 //! The main job on a built-in casting: the scan's corners are welded, the mesh is drawn in each mode, each drawing is written
-//! as a sheet and read back, and one sheet is listed. `make run` hands it the proved program that lists a sheet.
+//! as a sheet and read back, and one sheet is listed. `make run` hands it the proved program that lists a sheet, and the folder that the
+//! sheets are left in.
 
 use ramikohy::{Mesh, Mode, Plane, Sheet, Strokes, Vector, draw, read_sheet, section, weld, write_sheet};
 use std::collections::BTreeMap;
@@ -12,11 +13,12 @@ type Outcome<T> = Result<T, Box<dyn std::error::Error>>;
 const AROUND: usize = 96;
 const EYE: [f64; 3] = [600.0, -450.0, 520.0];
 const TOLERANCE: f64 = 1e-9;
-const MODES: [(&str, Mode); 4] = [
-    ("triangles", Mode::Triangles),
-    ("polygonal", Mode::Polygonal),
-    ("silhouette, cos_theta 0", Mode::Silhouette(0.0)),
-    ("silhouette, cos_theta 0.9", Mode::Silhouette(0.9)),
+/// Each mode, with the name of its sheet's file.
+const MODES: [(&str, &str, Mode); 4] = [
+    ("triangles", "triangles.sheet", Mode::Triangles),
+    ("polygonal", "polygonal.sheet", Mode::Polygonal),
+    ("silhouette, cos_theta 0", "silhouette.sheet", Mode::Silhouette(0.0)),
+    ("silhouette, cos_theta 0.9", "silhouette_creases.sheet", Mode::Silhouette(0.9)),
 ];
 
 fn main() -> Outcome<()> {
@@ -29,16 +31,32 @@ fn main() -> Outcome<()> {
     );
     println!("weld: {} corners are {} vertices, {welding:.2} ms\n", 3 * corners.len(), mesh.vertices.len());
     println!("drawing                    kept edges  strokes  pen lifts   bytes  draw ms  write ms  read ms");
-    for (name, mode) in MODES {
+    for (name, _, mode) in MODES {
         println!("{name:<25}{}", archived(&mesh, mode)?);
     }
     println!("\neach kept edge is drawn once and no other is; each sheet reads back as what was written\n");
-    let bytes = sheet_of(&mesh, MODES[2].1)?;
+    let bytes = sheet_of(&mesh, MODES[2].2)?;
     println!("{}, as a sheet of {} bytes, listed:", MODES[2].0, bytes.len());
     for line in listing(&bytes)?.lines().take(4) {
         println!("  {:.90}{}", line, if line.len() > 90 { " .." } else { "" });
     }
-    cut(&mesh)
+    cut(&mesh)?;
+    leave(&mesh)
+}
+
+/// Leaves each sheet in the folder that is named, and says where.
+fn leave(mesh: &Mesh) -> Outcome<()> {
+    let Some(folder) = std::env::args().nth(2) else { return Ok(()) };
+    let mut bytes = 0;
+    for (_, file, mode) in MODES {
+        let sheet = sheet_of(mesh, mode)?;
+        bytes += sheet.len();
+        std::fs::write(std::path::Path::new(&folder).join(file), sheet)?;
+    }
+    let files = MODES.map(|(_, file, _)| file).join(" ");
+    println!("\nthe sheets, {bytes} bytes, are in {folder}: {files}");
+    println!("tools/list < {folder}/{} lists one", MODES[2].1);
+    Ok(())
 }
 
 /// The pipe's wall, as radius and height in mm: bore, flange with a raised face, fillet, pipe, and the same back.

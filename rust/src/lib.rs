@@ -38,3 +38,8 @@ pub use reader::Reader;
 pub use refusal::Refusal;
 pub use strokes::{Strokes, strokes};
 pub use vector::Vector;
+
+/// The README's examples, compiled and run as they stand there.
+#[cfg(doctest)]
+#[doc = include_str!("../../README.md")]
+struct Readme;

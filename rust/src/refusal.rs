@@ -38,6 +38,21 @@ impl Refusal {
         Refusal::Sheet,
     ];
 
+    /// What was wrong, in words.
+    fn words(self) -> &'static str {
+        match self {
+            Refusal::Shape => "a list is not one of triangles, points, pairs or strokes",
+            Refusal::Count => "a count is above its limit",
+            Refusal::Vertex => "a vertex number is not below the vertex count",
+            Refusal::Number => "a number is outside its range, or a mode number above 3",
+            Refusal::Scratch => "scratch is too short",
+            Refusal::Room => "output is too short, or a cut would write over 1,048,576 points",
+            Refusal::Flat => "a face's normal has computed length 0",
+            Refusal::Deep => "a span would be halved more than 64 times",
+            Refusal::Sheet => "the bytes are not a sheet",
+        }
+    }
+
     /// Reads a status of the archive: accepted, or the refusal.
     pub(crate) fn check(status: u32) -> Result<(), Refusal> {
         match status {
@@ -49,7 +64,7 @@ impl Refusal {
 
 impl std::fmt::Display for Refusal {
     fn fmt(&self, f: &mut std::fmt::Formatter<'_>) -> std::fmt::Result {
-        write!(f, "refused {}", *self as u32)
+        write!(f, "refused {}: {}", *self as u32, self.words())
     }
 }
 

@@ -110,3 +110,27 @@ fn the_three_languages_have_the_same_status_for_none() {
     assert!(read("include/ramikohy.h").contains("#define RAMIKOHY_NONE 255\n"));
     assert_eq!(ramikohy::c::NONE, 255);
 }
+
+/// The numbers that the header defines by these names.
+fn defined(name: &str) -> String {
+    let text = read("include/ramikohy.h");
+    let head = format!("#define RAMIKOHY_{name} ");
+    let lines: Vec<&str> = text.lines().filter_map(|line| line.strip_prefix(&head)).collect();
+    let [line] = lines[..] else { panic!("{name} is not defined once") };
+    line.split("/*").next().unwrap().trim().to_string()
+}
+
+#[test]
+fn the_header_has_the_refusals_and_the_limits() {
+    for (i, refusal) in ramikohy::Refusal::ALL.iter().enumerate() {
+        assert_eq!(defined(&format!("{refusal:?}").to_uppercase()), (i + 1).to_string());
+    }
+    let source = read("crates/refusal/src/lib.rt") + &read("crates/path/src/lib.rt");
+    let limits: Vec<&str> = parts(&source, "const MOST_", ";").collect();
+    assert_eq!(limits.len(), 6);
+    for limit in limits {
+        let (name, number) = limit.split_once('=').unwrap();
+        let name = name.split(':').next().unwrap();
+        assert_eq!(defined(&format!("MOST_{name}")), number.trim(), "{name}");
+    }
+}

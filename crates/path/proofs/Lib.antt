@@ -6,3 +6,4 @@ pub mod Tests
 pub mod Bounds
 pub mod Lefts
 pub mod Places
+pub mod Again

@@ -6,3 +6,4 @@ pub mod Bags
 pub mod Reading
 pub mod Spliced
 pub mod Numbers
+pub mod Unique

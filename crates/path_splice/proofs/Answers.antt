@@ -6,7 +6,6 @@ use mathlib.Core.List.{List, [], _∷_, _++_, append-assoc, map}
 use Prim.Native.Nat.{ℕ, suc, _+_, _-_, _*_, _/_, _%_, _≤_}
 use native.Mathlib.Omega.{arith}
 use lib.ListN.{length, getD, drop, replicate, length-append}
-use lib.Seq.{sets-eq}
 use lib.Dec.{leb, eqb}
 use borrow.Author.Tests.{leb-true, eqb-true}
 use Rattle.refusal.specs.declared.Refusal.{Refusal}
@@ -18,6 +17,8 @@ use Rattle.path.specs.Laid.{over, joined, startsFrom}
 use Rattle.path.specs.Tests.{countedOf}
 use Rattle.path.proofs.Tests.{passed, both}
 use Rattle.path.proofs.Gathers.{length-gather}
+use Rattle.path.proofs.Pushes.{length-starts, over-sets}
+use Rattle.path.proofs.Again.{strokes-count, joined-from}
 use Rattle.path_splice.specs.Text.{strokesIn, part, mark, textOf, marksOf, ReadOut, Filled, LaidOut}
 use Rattle.path_splice.specs.Lent.{verdictOf, left, laid, leftBy}
 use Rattle.order.specs.Regions.{region, put}
@@ -35,7 +36,6 @@ use Rattle.path_ends.proofs.Walking.{All, none, more}
 use Rattle.path_ends.proofs.Reading.{Full}
 use Rattle.path_ends.proofs.Spliced.{points-most, strokes-most, strokes-full}
 use Rattle.path_ends.proofs.Numbers.{numbers}
-use Rattle.path_splice.proofs.Tables.{strokes-length}
 use Rattle.path_splice.proofs.Readings.{mark-none, mark-one}
 use Rattle.refusal.specs.Limits.{mostStrokes, mostPoints}
 
@@ -125,36 +125,23 @@ marks-all ss p ([] ∷ cs) (more f F) = absurd (not-full (readChain ss []) f (re
 marks-all ss p ((e ∷ c) ∷ cs) (more f F) = marks-chain ss p e c (inkAll cs) ∙ ap (λ (l : List ℕ). p ∷ l) (marks-all ss (p + length (readChain ss (e ∷ c))) cs F)
 
 -- sizes
-joined-size : (ss : List (List ℕ)) → length (joined ss) ≡ sum length ss
+joined-size : {A : Type 0} (ss : List (List A)) → length (joined ss) ≡ sum length ss
 unfolding joined sum
 joined-size [] = refl
 joined-size (s ∷ ss) = omega (arith, length-append s (joined ss), joined-size ss)
 
-starts-size : (p : ℕ) (ss : List (List ℕ)) → length (startsFrom p ss) ≡ length ss
-unfolding startsFrom
-starts-size p [] = refl
-starts-size p (s ∷ ss) = ap suc (starts-size (p + length s) ss)
-
 -- the strokes of a good table have as many points as the table is for, at most
-module _ {A : Type 0} (at : ℕ → A) (n : ℕ) where
-  table-from : (s : ℕ) (ss : List ℕ) → s ≤ n → goodFrom n s ss ≡ true → sum length (strokesOf at n (s ∷ ss)) ≡ n - s
-  unfolding strokesOf sum goodFrom
-  table-from s [] h g = omega (arith, length-gather at s (n - s))
-  table-from s (t ∷ ss) h g =
-      let p = both (leb s t && leb t n) (goodFrom n t ss) g in
-      let q = both (leb s t) (leb t n) (p .0) in
-      omega (arith, leb-true s t (q .0), leb-true t n (q .1), length-gather at s (t - s), table-from t ss (leb-true t n (q .1)) (p .1))
-
-  pub table-sum : (ss : List ℕ) → goodStarts n ss ≡ true → sum length (strokesOf at n ss) ≤ n
-  unfolding goodStarts strokesOf sum
-  table-sum [] g = omega arith
-  table-sum (s ∷ ss) g =
-      let p = both (eqb s 0) (goodFrom n s ss) g in
-      omega (arith, eqb-true s 0 (p .0), table-from s ss (omega (arith, eqb-true s 0 (p .0))) (p .1))
+pub table-sum : {A : Type 0} (at : ℕ → A) (n : ℕ) (ss : List ℕ) → goodStarts n ss ≡ true → sum length (strokesOf at n ss) ≤ n
+unfolding goodStarts strokesOf sum
+table-sum at n [] g = omega arith
+table-sum at n (s ∷ ss) g =
+    let p = both (eqb s 0) (goodFrom n s ss) g in
+    let z = eqb-true s 0 (p .0) in
+    omega (arith, joined-size (strokesOf at n (s ∷ ss)), ap length (joined-from at n s ss (omega arith) (p .1)), length-gather at s (n - s))
 
 over-put : (op l : List ℕ) → length l ≤ length op → put op 0 l ≡ over op l
-unfolding put over
-over-put op l h = let e : 0 + length l ≡ length l = omega arith in rw e at (sets-eq l op 0 (omega arith))
+unfolding put
+over-put op l h = over-sets op l h
 
 -- the order that the code leaves is the definition's
 module _ (ss : List (List ℕ)) (s s′ : List ℕ) (n r : ℕ) (q : length ss ≡ n) (F : Filled ss s n) (H : Woven s s′ n r) where
@@ -208,16 +195,16 @@ module _ (ps ss : List ℕ) (g : goodStarts (length ps) ss ≡ true) (s s′ : L
   Out = splice 0 eqb All2
 
   text : textOf All2 (region s′ (2 * length ss) h) ≡ joined Out
-  text = ap (λ (k : ℕ). textOf All2 (region s′ (2 * length ss) k)) e ∙ text-is All2 s s′ (length ss) r (strokes-length (numberAt ps) (length ps) ss) F H
+  text = ap (λ (k : ℕ). textOf All2 (region s′ (2 * length ss) k)) e ∙ text-is All2 s s′ (length ss) r (strokes-count (numberAt ps) (length ps) ss) F H
 
   marks : marksOf All2 0 (region s′ (2 * length ss) h) ≡ startsFrom 0 Out
-  marks = ap (λ (k : ℕ). marksOf All2 0 (region s′ (2 * length ss) k)) e ∙ marks-is All2 s s′ (length ss) r (strokes-length (numberAt ps) (length ps) ss) F H
+  marks = ap (λ (k : ℕ). marksOf All2 0 (region s′ (2 * length ss) k)) e ∙ marks-is All2 s s′ (length ss) r (strokes-count (numberAt ps) (length ps) ss) F H
 
   pub out-points : length (textOf All2 (region s′ (2 * length ss) h)) ≤ length ps
   out-points = omega (arith, ap length text, joined-size Out, points-most 0 eqb numbers All2, table-sum (numberAt ps) (length ps) ss g)
 
   pub out-starts : length (marksOf All2 0 (region s′ (2 * length ss) h)) ≤ length ss
-  out-starts = omega (arith, ap length marks, starts-size 0 Out, strokes-most 0 eqb numbers All2, strokes-length (numberAt ps) (length ps) ss)
+  out-starts = omega (arith, ap length marks, length-starts 0 Out, strokes-most 0 eqb numbers All2, strokes-count (numberAt ps) (length ps) ss)
 
   pub laid-out : (op os op′ os′ : List ℕ) (p q : ℕ) → length ps ≤ length op → length ss ≤ length os → ReadOut All2 (region s′ (2 * length ss) h) op os op′ os′ p q → LaidOut Out op os op′ os′ p q
   laid-out op os op′ os′ p q a b R =
@@ -225,7 +212,7 @@ module _ (ps ss : List ℕ) (g : goodStarts (length ps) ss ≡ true) (s s′ : L
         points = R .points ∙ ap (put op 0) text ∙ over-put op (joined Out) (omega (arith, out-points, ap length text));
         starts = R .starts ∙ ap (put os 0) marks ∙ over-put os (startsFrom 0 Out) (omega (arith, out-starts, ap length marks));
         many = R .many ∙ ap length text;
-        strokes = R .chains ∙ ap length marks ∙ starts-size 0 Out;
+        strokes = R .chains ∙ ap length marks ∙ length-starts 0 Out;
       }
 
 -- an accepted call

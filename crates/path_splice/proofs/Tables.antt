@@ -17,6 +17,8 @@ use Rattle.path.specs.Strokes.{goodFrom, goodStarts, strokesOf, gather, numberA
 use Rattle.order.proofs.Tests.{neqb}
 use Rattle.path.proofs.Starts.{getD-any}
 use Rattle.path.proofs.Tests.{both}
+use Rattle.path.proofs.Gathers.{gather-drop}
+use Rattle.path.proofs.Again.{strokes-count}
 use Rattle.path_splice.specs.Text.{strokesIn, Spans}
 use Rattle.path_ends.specs.Splice.{firstOf, lastOf, endOf, valueAt, present}
 use Rattle.order.proofs.Parts.{length-region, get-region}
@@ -55,17 +57,6 @@ module _ {A : Type 0} (at : ℕ → A) (n : ℕ) where
   stroke-at (s ∷ ss) zero h = refl
   stroke-at (s ∷ ss) (suc i) h = let e : suc i + 1 ≡ suc (i + 1) = omega arith in rw e (stroke-at ss i (omega arith))
 
-  pub strokes-length : (ss : List ℕ) → length (strokesOf at n ss) ≡ length ss
-  unfolding strokesOf
-  strokes-length [] = refl
-  strokes-length (s ∷ ss) = ap suc (strokes-length ss)
-
--- numbers that are read by place are those of a region
-gather-region : (ps : List ℕ) (a n : ℕ) → a + n ≤ length ps → gather (numberAt ps) a n ≡ region ps a n
-unfolding gather
-gather-region ps a zero h = refl
-gather-region ps a (suc n) h = ap (λ (l : List ℕ). getD ps a 0 ∷ l) (gather-region ps (a + 1) n (omega arith)) ∙ rw (drop-cons ps a 0 (omega arith), add-one)
-
 first-is : (l : List ℕ) → firstOf 0 l ≡ getD l 0 0
 unfolding firstOf
 first-is [] = refl
@@ -101,11 +92,11 @@ spans ps ss i g h b e =
     record {
       low = omega (arith, q .0);
       high = omega (arith, q .1);
-      is = stroke-at (numberAt ps) (length ps) ss i h ∙ ap (λ (k : ℕ). gather (numberAt ps) a (k - a)) (sym e) ∙ gather-region ps a (b - a) (omega (arith, q .0, q .1));
+      is = stroke-at (numberAt ps) (length ps) ss i h ∙ ap (λ (k : ℕ). gather (numberAt ps) a (k - a)) (sym e) ∙ gather-drop ps a (b - a) (omega (arith, q .0, q .1));
     }
 
 pub spans-none : (ps ss : List ℕ) (i : ℕ) → length ss ≤ i → Spans ps ss i 0 0
-spans-none ps ss i h = record { low = omega arith; high = omega arith; is = List·getD-eq-default (strokesIn ps ss) [] (omega (arith, strokes-length (numberAt ps) (length ps) ss)) }
+spans-none ps ss i h = record { low = omega arith; high = omega arith; is = List·getD-eq-default (strokesIn ps ss) [] (omega (arith, strokes-count (numberAt ps) (length ps) ss)) }
 
 module _ (ps ss : List ℕ) (i a b : ℕ) (S : Spans ps ss i a b) where
   abbrev All : List (List ℕ)

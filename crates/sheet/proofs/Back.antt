@@ -20,7 +20,8 @@ use Rattle.mesh.specs.Meshes.{allBelow}
 use Rattle.sheet.specs.Sheets.{bytesOf, bytesAll, wordAt, headerOf, wordsOf, sheetOf, sizeOf, strokesIn, modeIn, verticesIn, strokeCount, pointCount, startsIn, numbersIn, modeGood, countsGood, placesGood, strictFrom, tableGood, headerGood, isSheet}
 use Rattle.sheet.proofs.Sizes.{words-size}
 use Rattle.sheet.proofs.Modes.{good-most}
-use Rattle.sheet.proofs.Tables.{gather-add, gather-all, joined-all, joined-kept, kept-all, table-good, table-starts, strokes-again}
+use Rattle.path.proofs.Again.{gather-add, gather-all, joined-all, strokes-again}
+use Rattle.sheet.proofs.Tables.{joined-kept, kept-all, table-good, table-starts}
 
 -- the words that fit four bytes
 abbrev wordLimit : ℕ

@@ -18,7 +18,8 @@ use Rattle.path.proofs.Points.{numbers-lie}
 use Rattle.path.proofs.Gathers.{length-gather, strokes-more, strokes-none}
 use Rattle.sheet.specs.Sheets.{wordAt, strokesIn, strokeCount, pointCount, startsIn, numbersIn, isSheet}
 use Rattle.sheet.proofs.Sizes.{limits}
-use Rattle.sheet.proofs.Tables.{table-good, joined-all, strokes-count}
+use Rattle.path.proofs.Again.{joined-all, strokes-count}
+use Rattle.sheet.proofs.Tables.{table-good}
 use Rattle.sheet.proofs.Back.{gather-same, tested}
 use Rattle.sheet_list.specs.Listing.{digitsFrom, decimal, spaced, lineOf, linesOf, numberIn, numbersAt, listed, refusedText, mostBytes, textOf}
 use Rattle.sheet_list.proofs.Inks.{ink-two, start-in}

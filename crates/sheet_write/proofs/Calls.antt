@@ -20,7 +20,8 @@ use Rattle.path.proofs.Pushes.{over-sets}
 use Rattle.sheet.specs.Kept.{keptFrom}
 use Rattle.sheet.specs.Sheets.{bytesAll, headerOf, wordsOf, sheetOf, sizeOf, strokesIn}
 use Rattle.sheet.proofs.Words.{put-more}
-use Rattle.sheet.proofs.Tables.{joined-all, kept-all, kept-count}
+use Rattle.path.proofs.Again.{joined-all}
+use Rattle.sheet.proofs.Tables.{kept-all, kept-count}
 use Rattle.sheet.proofs.Sizes.{limits}
 use Rattle.sheet_write.specs.Write.{verdictOf, left, leftBy}
 

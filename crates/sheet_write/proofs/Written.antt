@@ -17,7 +17,7 @@ use Rattle.mesh.specs.Meshes.{allBelow}
 use Rattle.sheet.proofs.Modes.{word-good}
 use Rattle.sheet.specs.Sheets.{modeWord, strokesIn, sheetOf, modeGood, countsGood, startsIn, numbersIn}
 use Rattle.sheet.proofs.Sizes.{limits}
-use Rattle.sheet.proofs.Tables.{joined-all, strokes-count}
+use Rattle.path.proofs.Again.{joined-all, strokes-count}
 use Rattle.sheet.proofs.Back.{Readable, sheet-back, read-back}
 use Rattle.sheet_write.specs.Write.{verdictOf}
 use Rattle.sheet_write.proofs.Calls.{granted}

@@ -3,7 +3,7 @@
 //!
 //! A row is words of hexadecimal digits with one space between: the call's number, the status, how many numbers each list of
 //! the input has, the other numbers, the lists and, where the status is 0, the counts and what was written. Every list that is
-//! lent has [`LENT`] elements; a drawing's have their own lengths, [`DRAWN`].
+//! lent has [`LENT`] elements; a drawing's have their own lengths, `DRAWN`.
 
 use crate::calls::strokes::bits;
 use crate::calls::{Left, Lent, adaptive, chop, draw, read_sheet, section, simplify, splice, weld, write_sheet};

@@ -69,6 +69,17 @@ pub fn left<P, const N: usize>(answer: Result<[usize; N], Refusal>, lent: Lent<P
     }
 }
 
+/// What a place for a number may hold before a call: any pattern, and for one word in four a NaN: quiet or signalling, of either sign,
+/// with any payload. What a call does not write must stay so to the last bit.
+pub fn any_pattern(word: u64) -> u64 {
+    if word.is_multiple_of(4) { word | 0x7FF0_0000_0000_0004 } else { word }
+}
+
+/// The patterns of what a call leaves.
+pub fn patterns(numbers: &[f64]) -> Vec<u64> {
+    numbers.iter().map(|x| x.to_bits()).collect()
+}
+
 /// Coordinates lent by their bits, as numbers.
 pub fn numbers(bits: &[u64]) -> Vec<f64> {
     bits.iter().map(|&word| f64::from_bits(word)).collect()

@@ -24,6 +24,20 @@ pub struct Buffer {
     pub bytes: Vec<u8>,
 }
 
+/// NaN of every kind: signalling and quiet, of either sign, with the least and the greatest payload and with one between.
+pub const NANS: [u64; 10] = [
+    0x7FF0_0000_0000_0001,
+    0x7FF4_DEAD_BEEF_0001,
+    0x7FF7_FFFF_FFFF_FFFF,
+    0x7FF8_0000_0000_0000,
+    0x7FFF_FFFF_FFFF_FFFF,
+    0xFFF0_0000_0000_0001,
+    0xFFF4_DEAD_BEEF_0001,
+    0xFFF7_FFFF_FFFF_FFFF,
+    0xFFF8_0000_0000_0000,
+    0xFFFF_FFFF_FFFF_FFFF,
+];
+
 /// A buffer as a function is handed it: where it lies, and its elements.
 #[derive(Clone, Copy)]
 pub struct Slice {
@@ -73,9 +87,15 @@ impl Buffer {
         Buffer::of(Role::In, list)
     }
 
-    /// Buffers with something in them, of `len` elements of `size` bytes.
+    /// Buffers with something in them, of `len` elements of `size` bytes. Every other number is a NaN, of each kind in turn: what a
+    /// function does not write must stay so to the last bit.
     fn dirty(role: Role, size: usize, len: usize) -> Buffer {
-        let bytes = (0..size * len).map(|i| (i as u32).wrapping_mul(0x9E37_79B1).to_be_bytes()[0] | 1).collect();
+        let mut bytes: Vec<u8> =
+            (0..size * len).map(|i| (i as u32).wrapping_mul(0x9E37_79B1).to_be_bytes()[0] | 1).collect();
+        if size == 8 {
+            let kinds = NANS.iter().cycle();
+            bytes.chunks_exact_mut(8).step_by(2).zip(kinds).for_each(|(x, nan)| x.copy_from_slice(&nan.to_ne_bytes()));
+        }
         Buffer { role, size, bytes }
     }
 

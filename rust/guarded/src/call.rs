@@ -97,9 +97,15 @@ impl Call {
         Call { sound: Box::new(sound), ..self }
     }
 
-    /// Hands `work` these buffers, copied to where they are told to lie.
-    fn handed(buffers: &[Buffer], places: &[*mut u8], work: impl FnOnce(&[Slice]) -> Answer) -> Left {
-        let slice = |(b, &at): (&Buffer, &*mut u8)| Slice { at, len: b.len() };
+    /// Hands `work` these buffers, copied to where they are told to lie; an empty one as `empty` says.
+    fn handed(
+        buffers: &[Buffer],
+        places: &[*mut u8],
+        empty: impl Fn(*mut u8) -> *mut u8,
+        work: impl FnOnce(&[Slice]) -> Answer,
+    ) -> Left {
+        let slice =
+            |(b, &at): (&Buffer, &*mut u8)| Slice { at: if b.is_empty() { empty(at) } else { at }, len: b.len() };
         let slices: Vec<Slice> = buffers.iter().zip(places).map(slice).collect();
         for (buffer, &at) in buffers.iter().zip(places) {
             // SAFETY: there is room for the buffer's bytes.
@@ -111,7 +117,7 @@ impl Call {
         Left { answer, bytes: buffers.iter().zip(places).map(back).collect() }
     }
 
-    /// What is left in ordinary memory.
+    /// What is left in ordinary memory; an empty list is handed over as a null pointer with length 0.
     pub fn plain(&self, buffers: &[Buffer]) -> Left {
         Call::plain_by(buffers, &self.work)
     }
@@ -120,7 +126,7 @@ impl Call {
     pub fn plain_by(buffers: &[Buffer], work: impl FnOnce(&[Slice]) -> Answer) -> Left {
         let mut rooms: Vec<Vec<u64>> = buffers.iter().map(|b| vec![0; b.bytes.len().div_ceil(8)]).collect();
         let places: Vec<*mut u8> = rooms.iter_mut().map(|room| room.as_mut_ptr().cast()).collect();
-        Call::handed(buffers, &places, work)
+        Call::handed(buffers, &places, |_| std::ptr::null_mut(), work)
     }
 
     /// What is left in memory that lies against unreadable pages.
@@ -129,7 +135,7 @@ impl Call {
             pages.resize_with(buffers.len().max(pages.len()), || Pages::new(1));
             let lend = |(b, pages): (&Buffer, &mut Pages)| pages.lend(b.bytes.len(), side);
             let places: Vec<*mut u8> = buffers.iter().zip(pages.iter_mut()).map(lend).collect();
-            Call::handed(buffers, &places, &self.work)
+            Call::handed(buffers, &places, |at| at, &self.work)
         })
     }
 

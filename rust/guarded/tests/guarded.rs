@@ -5,7 +5,7 @@ use guarded::call::{Answer, Call};
 use guarded::pages::Side;
 use guarded::rows::{self, Row};
 use guarded::source::{Source, Strokes, random_bytes};
-use guarded::strokes::splice_of;
+use guarded::strokes::{chop_of, splice_of};
 use guarded::{CALLS, arithmetic, largest};
 use std::collections::{BTreeMap, BTreeSet};
 use std::os::unix::process::ExitStatusExt;
@@ -159,4 +159,25 @@ fn a_wrong_function_is_seen() {
     assert!(!is_seen(refused(6, false)), "a refusal that splice has");
     assert!(is_seen(refused(6, true)), "a refusal that changes something");
     assert!(is_seen(refused(0, false)), "nothing done");
+}
+
+/// A chop that rewrites the first NaN of its room with the same value, in another pattern: refused, and accepted with that room past
+/// what it writes.
+#[test]
+fn a_nan_that_changes_its_pattern_is_seen() {
+    fn chop(room: usize) -> Call {
+        chop_of(&Strokes { points: vec![0.0, 0.0, 0.0, 1.0, 0.0, 0.0], starts: vec![0] }, 0.5, [room, 1])
+    }
+    let quiet = |room: usize, at: usize| Call {
+        work: Box::new(move |b| {
+            let answer = (chop(room).work)(b);
+            // SAFETY: the room has more than `at` numbers.
+            unsafe { *b[2].to::<u64>().add(at) |= 1 << 51 };
+            answer
+        }),
+        ..chop(room)
+    };
+    assert!(!is_seen(chop(2)) && !is_seen(chop(5)));
+    assert!(is_seen(quiet(2, 0)), "a refusal that changes a NaN's pattern");
+    assert!(is_seen(quiet(5, 10)), "a NaN's pattern past what is written");
 }

@@ -1,10 +1,7 @@
 //! Chopping: strokes cut into steps.
 
-use super::Wrote;
+use super::{MOST_POINTS, Wrote, first};
 use crate::{Refusal, Strokes, c};
-
-/// The most points that a cut may come to.
-const MOST_POINTS: usize = 1_048_576;
 
 /// Cuts strokes into pieces of `step`, measured from each point to the next. A stroke of one point vanishes.
 ///
@@ -15,10 +12,12 @@ const MOST_POINTS: usize = 1_048_576;
 /// assert_eq!(chop(&line, 0.25).unwrap().points().len(), 5);
 /// ```
 pub fn chop(strokes: &Strokes<[f64; 3]>, step: f64) -> Result<Strokes<[f64; 3]>, Refusal> {
-    let mut room = strokes.points().len().max(64) * 4;
+    let from = strokes.points().as_flattened();
+    first(lent(from, strokes.starts(), step, &mut [], &mut []))?;
+    let mut room = (strokes.points().len().max(64) * 4).min(MOST_POINTS);
     loop {
         let (mut points, mut starts) = (vec![[0.0; 3]; room], vec![0; strokes.starts().len()]);
-        match lent(strokes.points().as_flattened(), strokes.starts(), step, points.as_flattened_mut(), &mut starts) {
+        match lent(from, strokes.starts(), step, points.as_flattened_mut(), &mut starts) {
             Err(Refusal::Room) if room < MOST_POINTS => room = (room * 4).min(MOST_POINTS),
             Err(why) => return Err(why),
             Ok(wrote) => {

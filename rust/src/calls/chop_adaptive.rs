@@ -1,5 +1,6 @@
 //! Chopping by what is seen: spans are halved until they are short on the screen.
 
+use super::{MOST_POINTS, first};
 use crate::{Matrix, Refusal, Strokes, c};
 
 /// How strokes are seen: the matrix to the screen, the screen's size, the longest span on it, and the squared length below
@@ -21,9 +22,6 @@ pub struct Adapted {
     pub halvings: usize,
 }
 
-/// The most points that a cut may come to.
-const MOST_POINTS: usize = 1_048_576;
-
 /// Halves spans until they are short on the screen or off it.
 ///
 /// ```
@@ -34,10 +32,12 @@ const MOST_POINTS: usize = 1_048_576;
 /// assert_eq!(chop_adaptive(&line, &view).unwrap().points().len(), 3);
 /// ```
 pub fn chop_adaptive(strokes: &Strokes<[f64; 3]>, view: &View) -> Result<Strokes<[f64; 3]>, Refusal> {
-    let mut room = strokes.points().len().max(64) * 4;
+    let from = strokes.points().as_flattened();
+    first(lent(from, strokes.starts(), view, &mut [], &mut []))?;
+    let mut room = (strokes.points().len().max(64) * 4).min(MOST_POINTS);
     loop {
         let (mut points, mut starts) = (vec![[0.0; 3]; room], vec![0; strokes.starts().len()]);
-        match lent(strokes.points().as_flattened(), strokes.starts(), view, points.as_flattened_mut(), &mut starts) {
+        match lent(from, strokes.starts(), view, points.as_flattened_mut(), &mut starts) {
             Err(Refusal::Room) if room < MOST_POINTS => room = (room * 4).min(MOST_POINTS),
             Err(why) => return Err(why),
             Ok(wrote) => {

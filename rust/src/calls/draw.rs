@@ -1,6 +1,6 @@
 //! Drawing: the edges of a mesh that a mode keeps, joined end to end.
 
-use super::Wrote;
+use super::{Wrote, first};
 use crate::{Mesh, Refusal, Strokes, c};
 
 /// Which edges a drawing keeps.
@@ -78,10 +78,11 @@ pub fn draw(
 ) -> Result<Strokes<u32>, Refusal> {
     let (vertices, indices) = (mesh.vertices.as_flattened(), mesh.faces.as_flattened());
     let sight = Sight { mode: mode.number(), cos_theta: mode.cos_theta(), eye, tolerance };
+    let flips = flips.as_flattened();
+    first(lent(vertices, indices, flips, &sight, &mut [], &mut [], &mut [], &mut []))?;
     let faces = mesh.faces.len();
     let (mut scratch, mut seen) = (vec![0; 64 * faces], vec![0.0; 4 * faces]);
     let (mut points, mut starts) = (vec![0; 6 * faces], vec![0; 3 * faces]);
-    let flips = flips.as_flattened();
     let wrote = lent(vertices, indices, flips, &sight, &mut scratch, &mut seen, &mut points, &mut starts)?;
     points.truncate(wrote.points);
     starts.truncate(wrote.starts);

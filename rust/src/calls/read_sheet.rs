@@ -1,5 +1,6 @@
 //! Reading a sheet back.
 
+use super::first;
 use crate::{Refusal, Strokes, c};
 
 /// A sheet: the number of its drawing's mode, how many vertices there are, and strokes of their numbers.
@@ -33,6 +34,7 @@ pub struct Read {
 /// assert_eq!(read_sheet(&bytes), Err(Refusal::Sheet));
 /// ```
 pub fn read_sheet(bytes: &[u8]) -> Result<Sheet, Refusal> {
+    first(lent(bytes, &mut [], &mut []))?;
     // Every point and every stroke of a sheet has four bytes of its own.
     let (mut numbers, mut starts) = (vec![0; bytes.len() / 4], vec![0; bytes.len() / 4]);
     let read = lent(bytes, &mut numbers, &mut starts)?;

@@ -1,6 +1,6 @@
 //! Sections: where a plane cuts a mesh.
 
-use super::Wrote;
+use super::{Wrote, first};
 use crate::{Mesh, Plane, Refusal, Strokes, c};
 
 /// The strokes of two points in which a plane cuts the faces of a mesh, in the order of the faces.
@@ -15,6 +15,7 @@ use crate::{Mesh, Plane, Refusal, Strokes, c};
 /// ```
 pub fn section(mesh: &Mesh, plane: &Plane, tolerance: f64) -> Result<Strokes<[f64; 3]>, Refusal> {
     let (vertices, indices) = (mesh.vertices.as_flattened(), mesh.faces.as_flattened());
+    first(lent(vertices, indices, plane, tolerance, &mut [], &mut []))?;
     let (mut points, mut starts) = (vec![[0.0; 3]; 2 * mesh.faces.len()], vec![0; mesh.faces.len()]);
     let wrote = lent(vertices, indices, plane, tolerance, points.as_flattened_mut(), &mut starts)?;
     points.truncate(wrote.points);

@@ -1,5 +1,6 @@
 //! Simplifying: points that are near enough to a line are left out.
 
+use super::first;
 use crate::{Refusal, Strokes, c};
 
 /// What an accepted call wrote, and how many distances it measured.
@@ -21,9 +22,10 @@ pub struct Simplified {
 /// assert_eq!(simplify(&hat, 0.5).unwrap(), hat);
 /// ```
 pub fn simplify(strokes: &Strokes<[f64; 3]>, threshold: f64) -> Result<Strokes<[f64; 3]>, Refusal> {
+    let from = strokes.points().as_flattened();
+    first(lent(from, strokes.starts(), threshold, &mut [], &mut []))?;
     let (mut points, mut starts) = (vec![[0.0; 3]; strokes.points().len()], vec![0; strokes.starts().len()]);
-    let (from, room) = (strokes.points().as_flattened(), points.as_flattened_mut());
-    let wrote = lent(from, strokes.starts(), threshold, room, &mut starts)?;
+    let wrote = lent(from, strokes.starts(), threshold, points.as_flattened_mut(), &mut starts)?;
     points.truncate(wrote.points);
     starts.truncate(wrote.starts);
     Ok(Strokes::from_parts(points, starts))

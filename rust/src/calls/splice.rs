@@ -1,6 +1,6 @@
 //! Splicing: strokes that meet end to end become one.
 
-use super::Wrote;
+use super::{Wrote, first};
 use crate::{Refusal, Strokes, c};
 
 /// Joins strokes of vertex numbers where their ends are equal.
@@ -14,6 +14,7 @@ use crate::{Refusal, Strokes, c};
 /// ```
 pub fn splice(strokes: &Strokes<u32>) -> Result<Strokes<u32>, Refusal> {
     let (points, starts) = (strokes.points(), strokes.starts());
+    first(lent(points, starts, &mut [], &mut [], &mut []))?;
     let mut scratch = vec![0; 8 * starts.len()];
     let (mut out_points, mut out_starts) = (vec![0; points.len()], vec![0; starts.len()]);
     let wrote = lent(points, starts, &mut scratch, &mut out_points, &mut out_starts)?;

@@ -1,5 +1,6 @@
 //! Welding: corners that lie near each other become one vertex.
 
+use super::first;
 use crate::{Mesh, Refusal, c};
 
 /// How many vertices and indices an accepted weld wrote.
@@ -19,6 +20,7 @@ pub struct Welded {
 /// ```
 pub fn weld(faces: &[[[f64; 3]; 3]]) -> Result<Mesh, Refusal> {
     let corners = faces.as_flattened();
+    first(lent(corners.as_flattened(), &mut [], &mut [], &mut []))?;
     let (mut vertices, mut out) = (vec![[0.0; 3]; corners.len()], vec![[0; 3]; faces.len()]);
     let mut scratch = vec![0; 12 * faces.len()];
     let wrote = lent(corners.as_flattened(), &mut scratch, vertices.as_flattened_mut(), out.as_flattened_mut())?;

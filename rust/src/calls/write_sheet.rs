@@ -1,5 +1,6 @@
 //! Writing a sheet: strokes of vertex numbers as bytes.
 
+use super::first;
 use crate::{Refusal, Strokes, c};
 
 /// The sheet of strokes of vertex numbers, of a mode's number (0 is stored as 1, which it stands for) and so many vertices.
@@ -17,6 +18,7 @@ use crate::{Refusal, Strokes, c};
 /// ```
 pub fn write_sheet(mode: u32, vertices: u32, strokes: &Strokes<u32>) -> Result<Vec<u8>, Refusal> {
     let (numbers, starts) = (strokes.points(), strokes.starts());
+    first(lent(mode, vertices, numbers, starts, &mut []))?;
     let mut out = vec![0; 24 + 4 * starts.len() + 4 * numbers.len()];
     let wrote = lent(mode, vertices, numbers, starts, &mut out)?;
     out.truncate(wrote);

@@ -5,7 +5,7 @@ use Prim.Native.Nat.{_-_, _*_}
 use lib.ListN.{length}
 use lib.Seq.{length-take-le}
 use Rattle.path_splice.specs.Text.{strokesIn}
-use Rattle.path_splice.proofs.Tables.{strokes-length}
+use Rattle.path.proofs.Again.{strokes-count}
 use Rattle.path_splice.proofs.Readings.{filled}
 use Rattle.path.specs.Strokes.{numberAt}
 use borrow.Author.Needs.{needs}
@@ -55,7 +55,7 @@ returns c =
     let z = c .before .before .before .before .before .before .before .before .before .before .before in
     let v = c .before .before .before .before .before .before .fill-values in
     let t = c .before .before .fill-todo in
-    filled (strokesIn (z .args .points .now) (z .args .starts .now)) (z .args .s .now) (length (z .args .starts .now)) (strokes-length (numberAt (z .args .points .now)) (length (z .args .points .now)) (z .args .starts .now)) (z .pre .1) (v .last .1 .1 .0) (t .last .1 .1 .0) (v .kept .1 .1 .0) (v .ensures) (t .kept .1 .1 .0) (t .ensures)
+    filled (strokesIn (z .args .points .now) (z .args .starts .now)) (z .args .s .now) (length (z .args .starts .now)) (strokes-count (numberAt (z .args .points .now)) (length (z .args .points .now)) (z .args .starts .now)) (z .pre .1) (v .last .1 .1 .0) (t .last .1 .1 .0) (v .kept .1 .1 .0) (v .ensures) (t .kept .1 .1 .0) (t .ensures)
 
 pub fill-spec : {M : Type 1} → statement M
 fill-spec =

@@ -1,5 +1,5 @@
 //! `compare CALL COUNT SEED`: runs the port beside the original and says how many answers differ. CALL is a name, or `all`.
-//! Exits 0 only if none differs.
+//! Exits 0 only if the original is there and none differs.
 
 use compare::{HAS_ORIGINAL, NO_ORIGINAL, runs};
 use std::process::ExitCode;
@@ -9,8 +9,8 @@ fn main() -> ExitCode {
     let [call, count, seed] = words.as_slice() else { return usage() };
     let (Ok(count), Ok(seed)) = (count.parse(), seed.parse()) else { return usage() };
     if !HAS_ORIGINAL {
-        println!("{NO_ORIGINAL}");
-        return ExitCode::SUCCESS;
+        eprintln!("{NO_ORIGINAL}");
+        return ExitCode::FAILURE;
     }
     let calls = if call == "all" { runs::names() } else { vec![call.as_str()] };
     let mut differ = 0;

@@ -1,7 +1,7 @@
 //! `chop_adaptive`: strokes on coordinates, halved until the pieces are short on the screen.
 
 use super::strokes::{bits, bits_of, coordinates, paths_of, split, table};
-use super::{Left, Lent, dirty, room};
+use super::{Left, Lent, any_pattern, dirty, patterns, room};
 use crate::random::Random;
 use crate::reading;
 use crate::runs::Seen;
@@ -43,8 +43,7 @@ pub fn make(random: &mut Random) -> Input {
     if random.once_in(16) {
         matrix[random.below(16)] = random.one_of(&[f64::NAN, 1048577.0, 0.0]);
     }
-    let any = |word| bits(f64::from_bits(word));
-    let lent = dirty(random, [0, 1 << 14, 64], any);
+    let lent = dirty(random, [0, 1 << 14, 64], any_pattern);
     let mut input = Input { points, starts, matrix, width, height, step, tolerance, lent };
     let written = if status_before(&input) == 0 { walked(&input) } else { Err(0) };
     let (points, strokes) = match written {
@@ -52,7 +51,7 @@ pub fn make(random: &mut Random) -> Input {
         Err(_) => (random.below(64), 64),
     };
     let lengths = [0, room(random, points) * 3, room(random, strokes)];
-    input.lent = dirty(random, lengths, any);
+    input.lent = dirty(random, lengths, any_pattern);
     input
 }
 
@@ -179,7 +178,7 @@ fn port(input: &Input) -> Left<u64> {
     let view = ramikohy::View { matrix: ramikohy::Matrix(matrix), width, height, step, tolerance };
     let answer = ramikohy::lent::chop_adaptive(&input.points, &input.starts, &view, &mut room, &mut starts);
     let counts = answer.map(|wrote| [wrote.points, wrote.starts, wrote.halvings]);
-    super::left(counts, Lent { points: room.iter().map(|&x| bits(x)).collect(), starts, ..input.lent.clone() })
+    super::left(counts, Lent { points: patterns(&room), starts, ..input.lent.clone() })
 }
 
 /// Runs the port beside the original.

@@ -1,7 +1,7 @@
 //! `chop`: strokes on coordinates, cut into steps.
 
-use super::strokes::{bits, bits_of, coordinates, paths_of, split, table};
-use super::{Left, Lent, dirty, room};
+use super::strokes::{bits_of, coordinates, paths_of, split, table};
+use super::{Left, Lent, any_pattern, dirty, patterns, room};
 use crate::random::Random;
 use crate::reading;
 use crate::runs::Seen;
@@ -26,16 +26,12 @@ pub fn make(random: &mut Random) -> Input {
         1..=50 => random.below(steps.len() - 2),
         _ => random.below(5),
     };
-    let mut input = Input { points, starts, step: steps[pick], lent: dirty(random, [0; 3], bits_of_any) };
+    let mut input = Input { points, starts, step: steps[pick], lent: dirty(random, [0; 3], any_pattern) };
     let written = cut(&input).unwrap_or_default();
     let strokes = written.iter().filter(|n| **n > 0).count();
     let lengths = [0, room(random, written.iter().sum()) * 3, room(random, strokes)];
-    input.lent = dirty(random, lengths, bits_of_any);
+    input.lent = dirty(random, lengths, any_pattern);
     input
-}
-
-fn bits_of_any(word: u64) -> u64 {
-    bits(f64::from_bits(word))
 }
 
 /// How many points each stroke comes to; none if the input is refused by 1, 2 or 4, or they are too many.
@@ -88,7 +84,7 @@ fn port(input: &Input) -> Left<u64> {
     let (mut room, mut starts) = (super::numbers(&input.lent.points), input.lent.starts.clone());
     let answer = ramikohy::lent::chop(&input.points, &input.starts, input.step, &mut room, &mut starts);
     let counts = answer.map(|wrote| [wrote.points, wrote.starts]);
-    super::left(counts, Lent { points: room.iter().map(|&x| bits(x)).collect(), starts, ..input.lent.clone() })
+    super::left(counts, Lent { points: patterns(&room), starts, ..input.lent.clone() })
 }
 
 /// Runs the port beside the original.

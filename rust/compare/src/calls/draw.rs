@@ -2,7 +2,7 @@
 
 use super::mesh::{self, mostly};
 use super::strokes::bits;
-use super::{Left, Lent, dirty, room};
+use super::{Left, Lent, any_pattern, dirty, patterns, room};
 use crate::random::Random;
 use crate::reading::{self, View};
 use crate::runs::Seen;
@@ -41,7 +41,7 @@ pub fn make(random: &mut Random) -> Input {
     let mut length = |need| if tight { room(random, need) } else { need + random.below(5) };
     let [words, numbers, points, starts] = [64 * faces, 4 * faces, 6 * faces, 3 * faces].map(&mut length);
     let mut lent = dirty(random, [words, points, starts], |word| word as u32);
-    lent.numbers = (0..numbers).map(|_| random.bits()).collect();
+    lent.numbers = (0..numbers).map(|_| any_pattern(random.bits())).collect();
     Input { vertices, indices, flips, mode, cos_theta, eye, tolerance, lent }
 }
 
@@ -257,7 +257,8 @@ fn keeper(input: &Input) -> impl Fn(&[usize]) -> bool {
         (2, [first, later @ ..]) => later.iter().any(|&f| faces[*first].0.dot(faces[f].0).abs() < 1.0 - tolerance),
         (_, &[a, b]) => {
             let ((n1, dot1), (n2, dot2)) = (faces[a], faces[b]);
-            let edgy = cos_theta > 0.0 && !(n1.dot(n2).abs() > cos_theta);
+            let above = n1.dot(n2).abs() > cos_theta;
+            let edgy = cos_theta > 0.0 && !above;
             let flipped = flips.contains(&(a.min(b), a.max(b)));
             edgy || if flipped { dot1 * dot2 >= 0.0 } else { dot1 * dot2 <= 0.0 }
         }
@@ -285,7 +286,7 @@ fn port(input: &Input) -> Left<u32> {
     let Lent { scratch, points, starts, .. } = &mut lent;
     let Input { vertices, indices, flips, .. } = input;
     let answer = ramikohy::lent::draw(vertices, indices, flips, &sight, scratch, &mut seen, points, starts);
-    lent.numbers = seen.iter().map(|x| x.to_bits()).collect();
+    lent.numbers = patterns(&seen);
     let left = super::left(answer.map(|wrote| [wrote.points, wrote.starts]), lent);
     assert!(left.status != 0 || is_sound(input, &left), "{input:?}");
     renamed(input, left)

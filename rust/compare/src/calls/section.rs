@@ -2,7 +2,7 @@
 
 use super::mesh::{self, mostly};
 use super::strokes::bits;
-use super::{Left, Lent, dirty, room};
+use super::{Left, Lent, any_pattern, dirty, patterns, room};
 use crate::random::Random;
 use crate::runs::Seen;
 use crate::torus;
@@ -25,7 +25,7 @@ pub fn make(random: &mut Random) -> Input {
     let plane = [(); 6].map(|()| mostly(random, 5, &[0.0, 1.0, -1.0, 0.25, 0.3, f64::NAN, 1048577.0]));
     let tolerance = mostly(random, 3, &[1e-9, 1e-6, 0.25, 0.0, 1.0, f64::NAN]);
     let lengths = [0, room(random, 2 * faces) * 3, room(random, faces)];
-    let lent = dirty(random, lengths, |word| bits(f64::from_bits(word)));
+    let lent = dirty(random, lengths, any_pattern);
     Input { vertices, indices, plane, tolerance, lent }
 }
 
@@ -85,7 +85,7 @@ fn port(input: &Input) -> Left<u64> {
     let answer =
         ramikohy::lent::section(&input.vertices, &input.indices, &plane, input.tolerance, &mut room, &mut starts);
     let counts = answer.map(|wrote| [wrote.points, wrote.starts]);
-    super::left(counts, Lent { points: room.iter().map(|&x| bits(x)).collect(), starts, ..input.lent.clone() })
+    super::left(counts, Lent { points: patterns(&room), starts, ..input.lent.clone() })
 }
 
 /// Runs the port beside the original.

@@ -1,7 +1,7 @@
 //! `simplify`: strokes on coordinates, with the points that are near enough to a line left out.
 
-use super::strokes::{bits, bits_of, coordinates, paths_of, split, table};
-use super::{Left, Lent, dirty, room};
+use super::strokes::{bits_of, coordinates, paths_of, split, table};
+use super::{Left, Lent, any_pattern, dirty, patterns, room};
 use crate::random::Random;
 use crate::runs::Seen;
 
@@ -22,7 +22,7 @@ pub fn make(random: &mut Random) -> Input {
     let thresholds = [0.0, 0.25, 0.5, 1.0, 2.0, f64::INFINITY, -0.0, -1.0, -1e-300, f64::NAN];
     let pick = if random.once_in(4) { random.below(thresholds.len()) } else { random.below(6) };
     let lengths = [0, room(random, points.len() / 3) * 3, room(random, starts.len())];
-    let lent = dirty(random, lengths, |word| bits(f64::from_bits(word)));
+    let lent = dirty(random, lengths, any_pattern);
     Input { points, starts, threshold: thresholds[pick], lent }
 }
 
@@ -68,7 +68,7 @@ fn port(input: &Input) -> Left<u64> {
     let (mut room, mut starts) = (super::numbers(&input.lent.points), input.lent.starts.clone());
     let answer = ramikohy::lent::simplify(&input.points, &input.starts, input.threshold, &mut room, &mut starts);
     let counts = answer.map(|wrote| [wrote.points, wrote.starts, wrote.distances]);
-    super::left(counts, Lent { points: room.iter().map(|&x| bits(x)).collect(), starts, ..input.lent.clone() })
+    super::left(counts, Lent { points: patterns(&room), starts, ..input.lent.clone() })
 }
 
 /// Runs the port beside the original.

@@ -1,7 +1,7 @@
 //! `weld`: corners that lie near each other become one vertex.
 
 use super::strokes::bits;
-use super::{Left, Lent, dirty, room};
+use super::{Left, Lent, any_pattern, dirty, patterns, room};
 use crate::random::Random;
 use crate::runs::Seen;
 use crate::torus;
@@ -30,7 +30,7 @@ pub fn make(random: &mut Random) -> Input {
         corners.pop();
     }
     let lengths = [12 * faces, 3 * faces, 3 * faces].map(|n| room(random, n));
-    let lent = dirty(random, [lengths[0], lengths[1] * 3, lengths[2]], |word| bits(f64::from_bits(word)));
+    let lent = dirty(random, [lengths[0], lengths[1] * 3, lengths[2]], any_pattern);
     Input { corners, lent }
 }
 
@@ -78,7 +78,7 @@ pub fn judged(input: &Input) -> Left<u64> {
 fn port(input: &Input) -> Left<u64> {
     let (mut room, mut lent) = (super::numbers(&input.lent.points), input.lent.clone());
     let answer = ramikohy::lent::weld(&input.corners, &mut lent.scratch, &mut room, &mut lent.starts);
-    lent.points = room.iter().map(|&x| bits(x)).collect();
+    lent.points = patterns(&room);
     super::left(answer.map(|wrote| [wrote.vertices, wrote.indices]), lent)
 }
 

@@ -1,0 +1,116 @@
+-- Demand 3 of every accepted `draw` and of every accepted `splice`. Assumes nothing.
+use mathlib.Core.Path.{_≡_, refl, sym, ap, _∙_, subst}
+use mathlib.Core.Bool.{true}
+use mathlib.Core.List.{List, [], _∷_}
+use Prim.Native.Nat.{ℕ, zero, suc, _+_, _/_, _%_, _<_, _≤_}
+use native.Mathlib.Omega.{arith}
+use lib.Dec.{eqb, leb, ltb}
+use lib.Ieee.{Float}
+use lib.ListN.{length, getD, take}
+use borrow.Author.Tests.{ltb-true, leb-true}
+use Rattle.refusal.specs.declared.Verdict.{Verdict}
+use Rattle.refusal.specs.declared.Verdict.the-variants.{Accepted, Refused}
+use Rattle.refusal.specs.Limits.{mostVertices, mostFaces}
+use Rattle.refusal.specs.Said.{accepted}
+use Rattle.refusal.proofs.Unique.{never-both, same-values}
+use Rattle.vector.specs.declared.Vector.{Vector}
+use Rattle.path.specs.Laid.{over, joined, startsFrom}
+use Rattle.path.proofs.Tests.{passed, both}
+use Rattle.path.proofs.Again.{laid-again}
+use Rattle.path_ends.specs.Demand.{one, drawn, degree, Demand3}
+use Rattle.path_ends.specs.Splice.{splice}
+use Rattle.path_ends.proofs.Bags.{bags}
+use Rattle.path_ends.proofs.Numbers.{numbers, on-numbers}
+use Rattle.path_splice.specs.Text.{strokesIn}
+use Rattle.path_splice.specs.Lent as S
+use Rattle.path_splice.specs.declared.Spliced.the-variants as spliced
+use Rattle.mesh.specs.Meshes.{countedOf, allBelow}
+use Rattle.mesh_strokes.specs.Draw.{kept, seenBy, keptOf, drawingOf}
+use Rattle.mesh_strokes.specs.Strokes as L
+use Rattle.mesh_strokes.proofs.Drawn as D
+use Rattle.mesh_draw.specs.Call as C
+use Rattle.mesh_draw.specs.declared.Drawing.the-variants as drawing
+use Rattle.demand3.specs.Demand3.{strokesLeft, Draws, keptPair}
+use Rattle.demand3.proofs.Pairs.{once}
+
+-- what splicing keeps of some strokes, said of how often each pair is to be drawn
+draws : (given out : List (List ℕ)) (times : ℕ → ℕ → ℕ) → Demand3 eqb given out → ((a b : ℕ) → drawn eqb a b given ≡ times a b) → Draws times out
+unfolding degree
+draws given out times d h =
+    record {
+      pairs = λ a b. d .pairs a b ∙ h a b;
+      odd = λ v. d .odd v ∙ ap (λ (n : ℕ). n % 2) (sym (bags eqb numbers out given (d .pairs) (λ x y. one (eqb v x) + one (eqb v y)) (λ x y. omega arith)));
+      least = λ other e. d .least other (λ a b. e a b ∙ sym (h a b));
+    }
+
+-- what lies in two lists after strokes were laid over them, read by their counts
+read : (ss : List (List ℕ)) (op os op′ os′ : List ℕ) (p q : ℕ) → _≡_ {A = List ℕ} (p ∷ q ∷ []) (length (joined ss) ∷ length ss ∷ []) → op′ ≡ over op (joined ss) → os′ ≡ over os (startsFrom 0 ss) → ss ≡ strokesLeft p q op′ os′
+read ss op os op′ os′ p q e f g =
+    let a : p ≡ length (joined ss) = ap (λ (l : List ℕ). getD l 0 0) e in
+    let b : q ≡ length ss = ap (λ (l : List ℕ). getD l 1 0) e in
+    rw (a, b, f, g) (sym (laid-again ss op os))
+
+-- ---- splice
+
+module _ (ps ss s op os : List ℕ) where
+  splice-accepted : (v : Verdict) (p q : ℕ) (s′ op′ os′ : List ℕ) → S.left (accepted (p ∷ q ∷ [])) s′ op′ os′ ≡ S.leftBy v (splice 0 eqb (strokesIn ps ss)) s op os
+      → splice 0 eqb (strokesIn ps ss) ≡ strokesLeft p q op′ os′
+  unfolding S.leftBy S.laid
+  splice-accepted Accepted p q s′ op′ os′ e =
+      read (splice 0 eqb (strokesIn ps ss)) op os op′ os′ p q (same-values (ap (λ (l : S.Left). l .answer) e)) (ap (λ (l : S.Left). l .points) e) (ap (λ (l : S.Left). l .starts) e)
+  splice-accepted (Refused r) p q s′ op′ os′ e = absurd (never-both (p ∷ q ∷ []) r (ap (λ (l : S.Left). l .answer) e))
+
+  -- whatever an accepted splice leaves, each pair of the strokes given is drawn as often as there
+  pub splice-demand3 : (p q : ℕ) (s′ op′ os′ : List ℕ) → S.left (S.said (spliced.Wrote p q)) s′ op′ os′ ≡ S.spliceLeft ps ss s op os
+      → Draws (λ a b. drawn eqb a b (strokesIn ps ss)) (strokesLeft p q op′ os′)
+  unfolding S.spliceLeft
+  splice-demand3 p q s′ op′ os′ e =
+      subst (Draws (λ a b. drawn eqb a b (strokesIn ps ss))) (splice-accepted (S.verdictOf ps ss (length s) (length op) (length os)) p q s′ op′ os′ e)
+      (draws (strokesIn ps ss) (splice 0 eqb (strokesIn ps ss)) (λ a b. drawn eqb a b (strokesIn ps ss)) (on-numbers (strokesIn ps ss)) (λ a b. refl))
+
+-- ---- draw
+
+below-words : (n : ℕ) (is : List ℕ) → allBelow n is ≡ true → n ≤ mostVertices → (k : ℕ) → getD is k 0 < 4294967296
+unfolding allBelow
+below-words n [] h l k = omega arith
+below-words n (i ∷ is) h l zero = omega (arith, ltb-true i n (both (ltb i n) (allBelow n is) h .0))
+below-words n (i ∷ is) h l (suc k) = below-words n is (both (ltb i n) (allBelow n is) h .1) l k
+
+module _ (vs : List Float) (is flips : List ℕ) (number : ℕ) (cosine : Float) (eye : Vector) (tolerance : Float) (s : List ℕ) (f : List Float) (op os : List ℕ) where
+  abbrev verdict : Verdict
+  verdict = C.verdictOf vs is (length flips) number cosine eye tolerance (length s) (length f) (length op) (length os)
+
+  abbrev drawn-of : List (List ℕ)
+  drawn-of = drawingOf (C.modeIn number cosine) eye tolerance flips vs is
+
+  -- how often each pair is to be drawn: once where it is kept, and else not at all
+  abbrev pub onceKept : ℕ → ℕ → ℕ
+  onceKept a b = one (keptPair (C.modeIn number cosine) eye tolerance flips vs is a b)
+
+  words : verdict ≡ Accepted → (k : ℕ) → getD is k 0 < 4294967296
+  unfolding C.verdictOf countedOf
+  words h =
+      let shape = passed _ _ _ h in
+      let count = passed _ _ _ (shape .1) in
+      let vertex = passed _ _ _ (count .1) in
+      below-words (length vs / 3) is (vertex .0) (leb-true _ _ (both (leb (length vs / 3) mostVertices) (leb (length is / 3) mostFaces) (count .0) .0))
+
+  kept-once : verdict ≡ Accepted → (a b : ℕ) → drawn eqb a b (keptOf (C.modeIn number cosine) eye tolerance flips vs is) ≡ onceKept a b
+  unfolding keptOf keptPair
+  kept-once h a b = once (kept (C.modeIn number cosine) (seenBy eye vs is) flips tolerance) is (words h) a b
+
+  draw-accepted : (v : Verdict) (p q : ℕ) (s′ : List ℕ) (f′ : List Float) (op′ os′ : List ℕ) → L.left (accepted (p ∷ q ∷ [])) s′ f′ op′ os′ ≡ C.leftBy v drawn-of s f op os
+      → (v ≡ Accepted) × (drawn-of ≡ strokesLeft p q op′ os′)
+  unfolding C.leftBy L.laid
+  draw-accepted Accepted p q s′ f′ op′ os′ e =
+      (refl, read drawn-of op os op′ os′ p q (same-values (ap (λ (l : L.Left). l .answer) e)) (ap (λ (l : L.Left). l .points) e) (ap (λ (l : L.Left). l .starts) e))
+  draw-accepted (Refused r) p q s′ f′ op′ os′ e = absurd (never-both (p ∷ q ∷ []) r (ap (λ (l : L.Left). l .answer) e))
+
+  -- whatever an accepted draw leaves: each kept edge once and none invented; then as few open strokes as those edges allow
+  pub draw-demand3 : (p q : ℕ) (s′ : List ℕ) (f′ : List Float) (op′ os′ : List ℕ)
+      → L.left (C.said (drawing.Wrote p q)) s′ f′ op′ os′ ≡ C.drawLeft vs is flips number cosine eye tolerance s f op os
+      → Draws onceKept (strokesLeft p q op′ os′)
+  unfolding C.drawLeft
+  draw-demand3 p q s′ f′ op′ os′ e =
+      let g = draw-accepted verdict p q s′ f′ op′ os′ e in
+      subst (Draws onceKept) (g .1) (draws (keptOf (C.modeIn number cosine) eye tolerance flips vs is) drawn-of onceKept (D.drawn (C.modeIn number cosine) eye tolerance flips vs is) (kept-once (g .0)))
