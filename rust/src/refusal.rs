@@ -1,27 +1,27 @@
 //! Why a call is refused.
 
-/// A refusal, in the order of the numbers; its number is `refusal as u32`.
+/// A refusal, in the order of the numbers. More may come, and some may come to carry what they found.
 #[derive(Debug, Clone, Copy, PartialEq, Eq)]
-#[repr(u32)]
+#[non_exhaustive]
 pub enum Refusal {
     /// A list that is no list of triangles, points, pairs or strokes.
-    Shape = 1,
+    Shape,
     /// A count above its limit.
-    Count = 2,
+    Count,
     /// A vertex number not below the vertex count.
-    Vertex = 3,
+    Vertex,
     /// A number outside its range.
-    Number = 4,
+    Number,
     /// Scratch too short.
-    Scratch = 5,
+    Scratch,
     /// Output too short, or a cut that would write too many points.
-    Room = 6,
+    Room,
     /// A face whose normal has computed length 0.
-    Flat = 7,
+    Flat,
     /// A span halved too often.
-    Deep = 8,
+    Deep,
     /// Bytes that are not a sheet.
-    Sheet = 9,
+    Sheet,
 }
 
 impl Refusal {
@@ -37,6 +37,21 @@ impl Refusal {
         Refusal::Deep,
         Refusal::Sheet,
     ];
+
+    /// The number that the calls for C answer.
+    pub fn number(self) -> u32 {
+        match self {
+            Refusal::Shape => 1,
+            Refusal::Count => 2,
+            Refusal::Vertex => 3,
+            Refusal::Number => 4,
+            Refusal::Scratch => 5,
+            Refusal::Room => 6,
+            Refusal::Flat => 7,
+            Refusal::Deep => 8,
+            Refusal::Sheet => 9,
+        }
+    }
 
     /// What was wrong, in words.
     fn words(self) -> &'static str {
@@ -55,16 +70,17 @@ impl Refusal {
 
     /// Reads a status of the archive: accepted, or the refusal.
     pub(crate) fn check(status: u32) -> Result<(), Refusal> {
-        match status {
-            0 => Ok(()),
-            n => Err(*Refusal::ALL.get(n as usize - 1).expect("a status that the contracts permit")),
+        if status == 0 {
+            return Ok(());
         }
+        let named = Refusal::ALL.into_iter().find(|refusal| refusal.number() == status);
+        Err(named.expect("a status that the contracts permit"))
     }
 }
 
 impl std::fmt::Display for Refusal {
     fn fmt(&self, f: &mut std::fmt::Formatter<'_>) -> std::fmt::Result {
-        write!(f, "refused {}: {}", *self as u32, self.words())
+        write!(f, "refused {}: {}", self.number(), self.words())
     }
 }
 

@@ -122,8 +122,8 @@ fn defined(name: &str) -> String {
 
 #[test]
 fn the_header_has_the_refusals_and_the_limits() {
-    for (i, refusal) in ramikohy::Refusal::ALL.iter().enumerate() {
-        assert_eq!(defined(&format!("{refusal:?}").to_uppercase()), (i + 1).to_string());
+    for refusal in ramikohy::Refusal::ALL {
+        assert_eq!(defined(&format!("{refusal:?}").to_uppercase()), refusal.number().to_string());
     }
     let source = read("crates/refusal/src/lib.rt") + &read("crates/path/src/lib.rt");
     let limits: Vec<&str> = parts(&source, "const MOST_", ";").collect();

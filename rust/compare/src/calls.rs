@@ -65,7 +65,7 @@ impl<P: Copy> Lent<P> {
 pub fn left<P, const N: usize>(answer: Result<[usize; N], Refusal>, lent: Lent<P>) -> Left<P> {
     match answer {
         Ok(counts) => Left { status: 0, counts: counts.to_vec(), lent },
-        Err(why) => Left { status: why as u32, counts: Vec::new(), lent },
+        Err(why) => Left { status: why.number(), counts: Vec::new(), lent },
     }
 }
 
