@@ -1,8 +1,9 @@
 -- Laws of chopping, and of the points written by it. Assumes nothing.
-use mathlib.Core.Path.{_≡_, refl, sym, ap, _∙_}
-use mathlib.Core.Bool.{true, false}
+use mathlib.Core.Path.{_≡_, refl, sym, ap, subst, _∙_}
+use mathlib.Core.Bool.{Bool, true, false, cond}
+use mathlib.Core.Logic.{_⊎_, inl, inr, ⊎-elim}
 use mathlib.Core.List.{List, [], _∷_, _++_, map}
-use Prim.Native.Nat.{ℕ, zero, suc, _+_, _-_, _/_, _≤_, _<_}
+use Prim.Native.Nat.{ℕ, zero, suc, zero-le, _+_, _-_, _/_, _≤_, _<_}
 use native.Mathlib.Omega.{arith}
 use lib.ListN.{length, getD, drop, length-append, length-map}
 use lib.Ieee.{Float, binary64, add, lt}
@@ -34,6 +35,25 @@ module _ (n k : ℕ) (l step d : Float) where
   pub steps-none : k ≤ n → stepsOf (k - n) l step d ≡ []
   unfolding stepsOf
   steps-none h = let e : k - n ≡ 0 = omega arith in rw e
+
+-- either the first k are all, or there are k of them at least
+abbrev Limited : ℕ → List Float → List Float → Type 0
+Limited k some all = (all ≡ some) ⊎ ((length some ≡ k) × (k ≤ length all))
+
+limit-more : (k : ℕ) (x : Bool) (d : Float) (some all : List Float) → Limited k some all → Limited (suc k) (cond x (d ∷ some) []) (cond x (d ∷ all) [])
+limit-more k true d some all h = ⊎-elim (λ e. inl (ap (λ (s : List Float). d ∷ s) e)) (λ e. inr (omega arith, omega arith)) h
+limit-more k false d some all h = inl refl
+
+pub steps-limit : (k n : ℕ) (l step d : Float) → Limited k (stepsOf k l step d) (stepsOf (k + n) l step d)
+unfolding stepsOf
+steps-limit zero n l step d = inr (refl, zero-le)
+steps-limit (suc k) n l step d = let e : suc k + n ≡ suc (k + n) = omega arith in rw e (limit-more k (lt d l) d _ _ (steps-limit k n l step (add binary64 d step)))
+
+-- steps counted only up to the most that may follow
+pub steps-within : (so-far : ℕ) (l step : Float) → so-far ≤ tooMany → Limited (tooMany - so-far) (stepsOf (tooMany - so-far) l step step) (stepsOf tooMany l step step)
+steps-within so-far l step h =
+    let e : tooMany - so-far + so-far ≡ tooMany = omega arith in
+    subst (λ (n : ℕ). Limited (tooMany - so-far) (stepsOf (tooMany - so-far) l step step) (stepsOf n l step step)) e (steps-limit (tooMany - so-far) so-far l step step)
 
 -- the loop that writes them
 module _ (f : Float → Vector) (n k : ℕ) (l step d : Float) (b : List Float) (o : ℕ) where

@@ -17,7 +17,7 @@ use Rattle.path.specs.Laid.{joined, nonEmpty}
 use Rattle.path.proofs.Tests.{split}
 use Rattle.path.proofs.Pushes.{some-kept, none-kept}
 use Rattle.path_chop.specs.Chop.{tooMany, stepsOf, span, spans, chopped, keptOf, capped}
-use Rattle.path_chop.proofs.Chops.{span-length, spans-more, stroke-short, stroke-some}
+use Rattle.path_chop.proofs.Chops.{steps-within, span-length, spans-more, stroke-short, stroke-some}
 
 -- ---- a count that is cut off
 
@@ -42,6 +42,14 @@ cap-small n r e h = ⊎-elim (λ l. e ∙ cap-under n l) (λ l. absurd (omega (a
 
 pub cap-most : (n : ℕ) → capped n ≤ tooMany
 cap-most n = ⊎-elim (λ l. omega (arith, cap-under n l)) (λ l. omega (arith, cap-over n (omega arith))) (split n tooMany)
+
+-- a span whose steps are counted only up to the most that may follow
+pub count-within : (so-far rest : ℕ) (l step : Float) → so-far ≤ tooMany
+    → capped (so-far + length (stepsOf (tooMany - so-far) l step step) + 1 + rest) ≡ capped (so-far + length (stepsOf tooMany l step step) + 1 + rest)
+count-within so-far rest l step h =
+    ⊎-elim (λ e. ap (λ (s : List Float). capped (so-far + length s + 1 + rest)) (sym e))
+    (λ e. cap-over (so-far + length (stepsOf (tooMany - so-far) l step step) + 1 + rest) (omega arith) ∙ sym (cap-over (so-far + length (stepsOf tooMany l step step) + 1 + rest) (omega arith)))
+    (steps-within so-far l step h)
 
 -- ---- strokes that are kept
 

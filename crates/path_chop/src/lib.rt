@@ -39,13 +39,13 @@ pub enum Chopped {
 // No more points than these are looked at in one span.
 const TOO_MANY: usize = MOST_POINTS + 1;
 
-// How many points lie within a span of length l. d is a running sum, as the source's.
-fn count_steps(l: f64, step: f64) -> usize
-    ensures { λ r. ⌜ (r ≡ length (stepsOf tooMany l step step)) × (r ≤ tooMany) ⌝ }
+// How many points lie within a span of length l, no more than most of them counted. d is a running sum, as the source's.
+fn count_steps(l: f64, step: f64, most: usize) -> usize
+    ensures { λ r. ⌜ (r ≡ length (stepsOf most l step step)) × (r ≤ most) ⌝ }
 {
     let mut n = 0;
     let mut d = step;
-    while n < TOO_MANY {
+    while n < most {
         if d < l {
             n += 1;
             d = d + step;
@@ -238,7 +238,8 @@ fn longest(points: &[f64], i: usize, e: usize, first: Vector) -> f64
     most
 }
 
-// A count with what the stroke from place a up to e adds at most: as if all its spans were as long as the longest. One root serves them all.
+// A count with what the stroke from place a up to e adds at most: as if all its spans were as long as the longest. One root serves them all,
+// and its steps are counted only up to the most that may follow.
 fn bound_stroke(points: &[f64], a: usize, e: usize, step: f64, so_far: usize) -> usize
     requires { ⌜ «so_far» ≤ tooMany ⌝ }
     ensures { λ r. ⌜ (capped («so_far» + length (chopped step (gather (pointAt (now (points .entry))) a (e - a)))) ≤ r) × (r ≤ tooMany) ⌝ }
@@ -247,7 +248,7 @@ fn bound_stroke(points: &[f64], a: usize, e: usize, step: f64, so_far: usize) ->
         return so_far;
     }
     let most = longest(points, a + 1, e, point_at(points, a));
-    let n = count_steps(root_or_nan(most), step) + 1;
+    let n = count_steps(root_or_nan(most), step, TOO_MANY - so_far) + 1;
     let k = e - (a + 1);
     if TOO_MANY / n < k {
         return TOO_MANY;
@@ -255,13 +256,16 @@ fn bound_stroke(points: &[f64], a: usize, e: usize, step: f64, so_far: usize) ->
     cap(so_far + 1 + k * n)
 }
 
-// How many points all strokes give at most.
+// How many points all strokes give at most. No stroke is looked at once there are too many.
 fn bound_strokes(points: &[f64], starts: &[u32], step: f64) -> usize
     ensures { λ r. ⌜ (capped (length (joined (choppedOf step (now (points .entry)) (now (starts .entry))))) ≤ r) × (r ≤ tooMany) ⌝ }
 {
     let mut n = 0;
     let mut j = 0;
     while j < starts.len() {
+        if MOST_POINTS < n {
+            return TOO_MANY;
+        }
         let a = starts[j] as usize;
         let e = end_of(starts, j, points.len() / 3);
         n = bound_stroke(points, a, e, step, n);
@@ -283,7 +287,7 @@ fn count_spans(points: &[f64], i: usize, e: usize, first: Vector, step: f64, so_
             return TOO_MANY;
         }
         let q = point_at(points, j);
-        n = n + count_steps(q.sub(p).length(), step) + 1;
+        n = n + count_steps(q.sub(p).length(), step, TOO_MANY - n) + 1;
         p = q;
         j += 1;
     }
