@@ -81,8 +81,8 @@ longest-start i n x = omega arith
 
 -- a turn of the loop that looks for the longest span, from place j on
 pub longest-turn : (step : Float) (at : ℕ → Vector) (i j e all : ℕ) (p q v : Vector) (m s w : Float) → i ≤ j → j < e → q ≡ at j → v ≡ subOf q p → s ≡ lengthSquaredOf v → Reaches m s w
-    → all ≤ (j - i) * (reach m step + 1) + length (spans step p (gather at j (e - j)))
-    → all ≤ (j + 1 - i) * (reach w step + 1) + length (spans step q (gather at (j + 1) (e - (j + 1))))
+    → all ≤ (j - i) * (reach m step + 1) + length (spans tooMany step p (gather at j (e - j)))
+    → all ≤ (j + 1 - i) * (reach w step + 1) + length (spans tooMany step q (gather at (j + 1) (e - (j + 1))))
 longest-turn step at i j e all p q v m s w h l f g k r a =
     let n = spans-count step at j e p l q f v g (rooted s) (ap rooted k) in
     let d : j + 1 - i ≡ suc (j - i) = omega arith in
@@ -97,7 +97,7 @@ squared-fits v s e = subst (λ (z : Float). T (fits binary64 z)) (sym e) (add-fi
 
 -- at the end of it
 pub longest-end : (step : Float) (at : ℕ → Vector) (i j e all : ℕ) (p : Vector) (m : Float) → e ≤ j → j - i ≤ e - i
-    → all ≤ (j - i) * (reach m step + 1) + length (spans step p (gather at j (e - j))) → all ≤ (e - i) * (reach m step + 1)
+    → all ≤ (j - i) * (reach m step + 1) + length (spans tooMany step p (gather at j (e - j))) → all ≤ (e - i) * (reach m step + 1)
 longest-end step at i j e all p m l h a =
     let z = ap length (spans-none step at j e p l) in
     omega (arith, mul-le-mul-right (reach m step + 1) h)

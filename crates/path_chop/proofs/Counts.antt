@@ -74,22 +74,22 @@ kept-most n = ⊎-elim (λ h. omega (arith, kept-some n h)) (λ h. omega (arith,
 -- ---- one span, one stroke more in the count
 
 pub spans-count : (step : Float) (at : ℕ → Vector) (i e : ℕ) (p : Vector) → i < e → (q : Vector) → q ≡ at i → (v : Vector) → v ≡ subOf q p → (l : Float) → l ≡ lengthOf v
-    → length (spans step p (gather at i (e - i))) ≡ length (stepsOf tooMany l step step) + 1 + length (spans step q (gather at (i + 1) (e - (i + 1))))
+    → length (spans tooMany step p (gather at i (e - i))) ≡ length (stepsOf tooMany l step step) + 1 + length (spans tooMany step q (gather at (i + 1) (e - (i + 1))))
 spans-count step at i e p h q f v g l k =
-    ap length (spans-more step at i e p h q f) ∙ length-append (span step p q) (spans step q (gather at (i + 1) (e - (i + 1))))
-    ∙ ap (λ (n : ℕ). n + length (spans step q (gather at (i + 1) (e - (i + 1))))) (span-length step p q v l g k)
+    ap length (spans-more step at i e p h q f) ∙ length-append (span tooMany step p q) (spans tooMany step q (gather at (i + 1) (e - (i + 1))))
+    ∙ ap (λ (n : ℕ). n + length (spans tooMany step q (gather at (i + 1) (e - (i + 1))))) (span-length step p q v l g k)
 
-module _ (step : Float) (at : ℕ → Vector) (a e : ℕ) {rest all : List (List Vector)} (f : all ≡ chopped step (gather at a (e - a)) ∷ rest) where
-  pub joined-count : length (joined all) ≡ length (chopped step (gather at a (e - a))) + length (joined rest)
+module _ (step : Float) (at : ℕ → Vector) (a e : ℕ) {rest all : List (List Vector)} (f : all ≡ chopped tooMany step (gather at a (e - a)) ∷ rest) where
+  pub joined-count : length (joined all) ≡ length (chopped tooMany step (gather at a (e - a))) + length (joined rest)
   unfolding joined
-  joined-count = rw f (length-append (chopped step (gather at a (e - a))) (joined rest))
+  joined-count = rw f (length-append (chopped tooMany step (gather at a (e - a))) (joined rest))
 
   pub kept-count : length (nonEmpty all) ≡ keptOf (e - a) + length (nonEmpty rest)
   kept-count =
       rw f
       (⊎-elim
-      (λ h. omega (arith, kept-some (e - a) h, some-kept (chopped step (gather at a (e - a))) rest (stroke-some step at a e (omega arith))))
-      (λ h. omega (arith, kept-none (e - a) h, none-kept (chopped step (gather at a (e - a))) rest (stroke-short step at a e h)))
+      (λ h. omega (arith, kept-some (e - a) h, some-kept (chopped tooMany step (gather at a (e - a))) rest (stroke-some step at a e (omega arith))))
+      (λ h. omega (arith, kept-none (e - a) h, none-kept (chopped tooMany step (gather at a (e - a))) rest (stroke-short step at a e h)))
       (split 2 (e - a)))
 
 -- a turn of the loop that counts the strokes, where n points are counted so far

@@ -21,7 +21,7 @@ returns : tie.Need-returns
 returns c =
     let a = c .before .before .before .args in
     let z = stroke-short (a .step) (pointAt (a .points .now)) (a .a) (a .e) (kept-zero (a .e - a .a) (sym (c .before .kept .ensures) ∙ c .if1 .taken)) in
-    let k : a .so-far + length (chopped (a .step) (gather (pointAt (a .points .now)) (a .a) (a .e - a .a))) ≡ a .so-far = omega arith in
+    let k : a .so-far + length (chopped tooMany (a .step) (gather (pointAt (a .points .now)) (a .a) (a .e - a .a))) ≡ a .so-far = omega arith in
     (le-of-eq (ap capped k ∙ cap-under (a .so-far) (c .before .before .before .pre)), c .before .before .before .pre)
 
 add-longest : tie.Need-add-longest

@@ -12,7 +12,7 @@ use Rattle.path_chop.proofs.count_spans.Statement.{statement}
 use Rattle.path_chop.proofs.count_spans.Tie as tie
 
 abbrev Inv-loop : tie.InvT-loop
-Inv-loop points i e step so-far j₀ n₀ p₀ j n p = (n ≤ tooMany + 1) × (capped (n + length (spans step p (gather (pointAt points) j (e - j)))) ≡ capped (so-far + length (spans step p₀ (gather (pointAt points) i (e - i)))))
+Inv-loop points i e step so-far j₀ n₀ p₀ j n p = (n ≤ tooMany + 1) × (capped (n + length (spans tooMany step p (gather (pointAt points) j (e - j)))) ≡ capped (so-far + length (spans tooMany step p₀ (gather (pointAt points) i (e - i)))))
 
 abbrev μ-loop : tie.MeasureT-loop
 μ-loop points i e step so-far j₀ n₀ p₀ j n p = e - j
@@ -56,7 +56,7 @@ loop-again : tie.Need-loop-again Inv-loop μ-loop
 loop-again c =
     let l = c .before .before .before .before .before .before in
     let a = l .before .before .args in
-    let rest = length (spans (a .step) (c .before .before .before .point-at .result) (gather (pointAt (a .points .now)) (l .loop .j + 1) (a .e - (l .loop .j + 1)))) in
+    let rest = length (spans tooMany (a .step) (c .before .before .before .point-at .result) (gather (pointAt (a .points .now)) (l .loop .j + 1) (a .e - (l .loop .j + 1)))) in
     let k = spans-count (a .step) (pointAt (a .points .now)) (l .loop .j) (a .e) (l .loop .p) (search needs) _ (c .before .before .before .point-at .ensures) _ (c .before .before .sub .ensures) _ (c .before .length .ensures) in (
       omega arith,
       ap (λ (x : ℕ). capped (l .loop .n + x + 1 + rest)) (c .count-steps .ensures .0) ∙ count-within (l .loop .n) rest _ (a .step) (omega arith) ∙ ap capped (omega arith) ∙ l .loop .inv .1,
