@@ -3,9 +3,11 @@ use libc::STDOUT_FILENO;
 use mesh_section::Plane;
 use mesh_section::Sectioned;
 use mesh_weld::Welded;
+use path_adaptive::Adapted;
 use path_chop::Chopped;
 use path_simplify::Simplified;
 use vector::Vector;
+use vector::matrix::Matrix;
 
 fn text(s: &[u8]) {
     io::write_all(STDOUT_FILENO, s);
@@ -51,6 +53,25 @@ fn chop_status(r: Chopped) -> u64 {
             starts: _,
         } => 0,
         Chopped::Refused(why) => refusal::number(why) as u64,
+    }
+}
+
+// An adaptive cut's status, and what it wrote.
+fn adapted_line(what: &[u8], r: Adapted) {
+    match r {
+        Adapted::Wrote {
+            points: p,
+            starts: _,
+            halvings: h,
+        } => {
+            line(what, 0);
+            text(b"its points and halvings: ");
+            decimal(p as u64);
+            text(b" ");
+            decimal(h as u64);
+            text(b"\n");
+        }
+        Adapted::Refused(why) => line(what, refusal::number(why) as u64),
     }
 }
 
@@ -176,6 +197,48 @@ fn chop_by_nothing() {
     line(b"chop by step 0, status", chop_status(r));
 }
 
+// The matrix that shows a point where it is.
+fn identity() -> Matrix {
+    Matrix {
+        x00: 1.0,
+        x01: 0.0,
+        x02: 0.0,
+        x03: 0.0,
+        x10: 0.0,
+        x11: 1.0,
+        x12: 0.0,
+        x13: 0.0,
+        x20: 0.0,
+        x21: 0.0,
+        x22: 1.0,
+        x23: 0.0,
+        x30: 0.0,
+        x31: 0.0,
+        x32: 0.0,
+        x33: 1.0,
+    }
+}
+
+// An adaptive cut of a line along x, on a screen of 10 by 10.
+fn adapt(what: &[u8], from: f64, to: f64, step: f64) {
+    let points = [from, 0.0, 0.0, to, 0.0, 0.0];
+    let starts = [0u32; 1];
+    let mut out_points = [0.0; 15];
+    let mut out_starts = [0u32; 1];
+    let r = path_adaptive::chop_adaptive(
+        &points[..],
+        &starts[..],
+        identity(),
+        10.0,
+        10.0,
+        step,
+        1e-9,
+        &mut out_points[..],
+        &mut out_starts[..],
+    );
+    adapted_line(what, r);
+}
+
 // A stroke out and back at threshold 1: its two ends, which are equal.
 fn simplify_out_and_back() {
     let points = [0.0, 0.0, 0.0, 1.0, 0.0, 0.0, 0.0, 0.0, 0.0];
@@ -226,6 +289,14 @@ fn main() {
     section_of_one_face_more();
     weld_of_one_face_more();
     chop_by_nothing();
+    adapt(b"adaptive cut of 0 to 4 by step 2.5, status", 0.0, 4.0, 2.5);
+    adapt(b"adaptive cut of 0 to 4 by step 2, status", 0.0, 4.0, 2.0);
+    adapt(
+        b"adaptive cut of 11 to 15 by step 2, status",
+        11.0,
+        15.0,
+        2.0,
+    );
     simplify_out_and_back();
     simplify_below_nothing();
 }

@@ -1,4 +1,4 @@
--- Points written equal points read plus halvings, by the contract alone. Assumes nothing.
+-- Points written equal points read plus halvings. Assumes nothing.
 use mathlib.Core.Path.{_≡_, refl, sym, ap, _∙_}
 use mathlib.Core.Bool.{true, _&&_}
 use mathlib.Core.List.{List, [], _∷_}
@@ -15,12 +15,10 @@ use Rattle.refusal.proofs.Unique.{never-both, same-values}
 use Rattle.vector.specs.declared.Vector.{Vector}
 use Rattle.vector.specs.declared.matrix.Matrix.{Matrix}
 use Rattle.path.specs.Strokes.{goodFrom, goodStarts, gather, pointAt, strokesOf}
-use Rattle.path.specs.declared.Place.{Place}
-use Rattle.path.specs.Laid.{putPoints, Out, out, pushAll, joined, nonEmpty}
+use Rattle.path.specs.Laid.{joined, nonEmpty}
 use Rattle.path.specs.Left.{Left, left, laid, leftBy}
 use Rattle.path.specs.Tests.{shapedOf}
 use Rattle.path.proofs.Gathers.{length-gather}
-use Rattle.path.proofs.Pushes.{front, all-place}
 use Rattle.path.proofs.Tests.{passed, both}
 use Rattle.path_adaptive.specs.declared.Adapted.the-variants as A
 use Rattle.path_adaptive.specs.Walk.{viewOf, walksOf, adapted, halvingsOf}
@@ -78,15 +76,7 @@ counted-all ps ss m width height step tolerance room startRoom h =
     points-and-halvings (viewOf m width height step tolerance) (strokesOf (pointAt ps) (length ps / 3) ss) (g .calm)
     ∙ ap (λ (n : ℕ). n + halvingsOf (walksOf (viewOf m width height step tolerance) ps ss)) (all-points (pointAt ps) (length ps / 3) ss t)
 
--- the same of what a call has pushed
-pub pushed-counted : (ps : List Float) (ss : List ℕ) (m : Matrix) (width height step tolerance : Float) (room startRoom : ℕ) (op : List Float) (os : List ℕ) (q : Out Float)
-    → adaptiveVerdict ps ss m width height step tolerance room startRoom ≡ Accepted
-    → q ≡ pushAll putPoints (out op os front) (adapted (walksOf (viewOf m width height step tolerance) ps ss))
-    → q .place .points ≡ length ps / 3 + halvingsOf (walksOf (viewOf m width height step tolerance) ps ss)
-pushed-counted ps ss m width height step tolerance room startRoom op os q h e =
-    let p = ap (λ (x : Place). x .points) (ap (λ (x : Out Float). x .place) e ∙ all-place putPoints (out op os front) (adapted (walksOf (viewOf m width height step tolerance) ps ss))) in
-    omega (arith, counted-all ps ss m width height step tolerance room startRoom h)
-
+-- of an accepted call's answer, by the contract alone
 pub written-is-read-and-halvings : (ps : List Float) (ss : List ℕ) (m : Matrix) (width height step tolerance : Float) (op : List Float) (os : List ℕ)
     (points starts halvings : ℕ) (a : List Float) (d : List ℕ)
     → left (said (A.Wrote points starts halvings)) a d ≡ adaptiveLeft ps ss m width height step tolerance op os → points ≡ length ps / 3 + halvings

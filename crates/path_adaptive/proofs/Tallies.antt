@@ -233,6 +233,10 @@ module _ {w : Walk} {ws all : List Walk} (e : all ≡ w ∷ ws) where
   unfolding Calm
   more-calm h = rw e at h
 
+  pub more-halvings : halvingsOf all ≡ w .halvings + halvingsOf ws
+  unfolding halvingsOf
+  more-halvings = rw e
+
   pub more-spent : (t q : Tally) → q ≡ spentStroke t w → spentAll q ws ≡ spentAll t all
   unfolding spentAll
   more-spent t q g = rw (e, g)

@@ -1,10 +1,13 @@
--- The plain numbers in which the walk of a span runs: the screen, and a tally.
+-- The plain numbers in which the walk of a span runs: the screen, a tally, and what is written of it.
 use mathlib.Core.Path.{_≡_}
+use mathlib.Core.Bool.{false}
 use mathlib.Core.List.{List}
-use Prim.Native.Nat.{ℕ, zero, suc}
-use lib.ListN.{getD}
+use Prim.Native.Nat.{ℕ, zero, suc, _+_, _≤_}
+use lib.ListN.{length, getD}
 use lib.Ieee.{Float, nan}
 use Rattle.refusal.specs.declared.Refusal.the-variants.{Room, Deep}
+use Rattle.refusal.specs.Limits.{mostPoints}
+use Rattle.path.specs.Laid.{putPoints, Pen, inked}
 use Rattle.path_adaptive.specs.declared.View.{View}
 use Rattle.path_adaptive.specs.declared.Tally.{Tally}
 use Rattle.path_adaptive.specs.declared.Tally.the-variants.{Left, Met}
@@ -54,3 +57,14 @@ pointsOf (Met r) = 0
 -- from the tally n the walk comes to the tally r, however many starts are left
 abbrev pub Meets : ℕ → Walk → ℕ → Type 0
 Meets n w r = (starts : ℕ) → tallyOf r starts ≡ spent (tallyOf n starts) w
+
+-- a walk that comes to its end, with few enough points from place o on and few enough halvings after h
+pub record Fits (w : Walk) (o h : ℕ) : Type 0 where
+  pub calm : w .deep ≡ false
+  pub few : o + length (w .points) ≤ mostPoints
+  pub few-halvings : h + w .halvings ≤ mostPoints
+
+-- what writing a walk does: its points go where the pen is, and its halvings are added to the count
+pub record Inks (w : Walk) (p : Pen Float) (h : ℕ) (q : Pen Float) (k : ℕ) : Type 0 where
+  pub ink : q ≡ inked putPoints p (w .points)
+  pub count : k ≡ h + w .halvings

@@ -90,6 +90,7 @@ walksOf view ps ss = map (strokeOf view) (strokesOf (pointAt ps) (length ps / 3)
 abbrev pub adapted : List Walk → List (List Vector)
 adapted ws = map (λ (w : Walk). w .points) ws
 
+-- the halvings of all; points written are points read and these (`written-is-read-and-halvings`, proofs/Halvings)
 unfoldable pub halvingsOf : List Walk → ℕ
 halvingsOf [] = 0
 halvingsOf (w ∷ ws) = w .halvings + halvingsOf ws

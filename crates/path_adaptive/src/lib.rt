@@ -21,12 +21,12 @@ ghost use Prim.Native.Nat.{_+_, _-_, _≤_, _<_};
 ghost use lib.ListN.{length};
 ghost use Rattle.refusal.specs.Limits.{mostPoints};
 ghost use Rattle.path.specs.Strokes.{pointAt, gather};
-ghost use Rattle.path.specs.Laid.{putPoints, pen, inked, out, push, pushAll, joined};
+ghost use Rattle.path.specs.Laid.{putPoints, pen, out, push, pushAll, joined};
 ghost use Rattle.path.specs.Left.{left};
 ghost use Rattle.path.specs.Tests.{coordinatesGood};
-ghost use Rattle.path_adaptive.specs.Walk.{viewOf, shownOf, middleOf, bothBelow, bothAbove, outsideOf, endsOf, one, walk, walkFrom, strokeOf, walksOf, adapted, Calm};
+ghost use Rattle.path_adaptive.specs.Walk.{viewOf, shownOf, middleOf, bothBelow, bothAbove, outsideOf, endsOf, one, walk, walkFrom, strokeOf, walksOf, adapted, halvingsOf, Calm};
 ghost use Rattle.path_adaptive.specs.Tally.{pointed, begun, spentStroke, spentAll, verdictOf};
-ghost use Rattle.path_adaptive.specs.Plain.{viewAt, tallyOf, pointsOf, Meets};
+ghost use Rattle.path_adaptive.specs.Plain.{viewAt, tallyOf, pointsOf, Meets, Fits, Inks};
 ghost use Rattle.path_adaptive.specs.Call.{said, entriesOf, numbersGood, pointRoom, adaptiveVerdict, adaptiveLeft};
 
 // What chop_adaptive wrote and how many halvings it made, or why it was refused.
@@ -58,6 +58,18 @@ pub struct Shown {
 pub enum Tally {
     Left(usize, usize),
     Met(Refusal),
+}
+
+// Where the next point goes, and how many halvings were made so far.
+pub struct Mark {
+    pub points: usize,
+    pub halvings: usize,
+}
+
+// Where the next point and the next start go, and how many halvings were made so far.
+pub struct Made {
+    pub place: Place,
+    pub halvings: usize,
 }
 
 // How many halvings may lie on each other.
@@ -266,16 +278,20 @@ fn measure(
     measure(lens, m.here, m.seen, b, t, depth - 1, l)
 }
 
-// Writes a point, and says where the next goes.
-fn add_point(out: &mut [f64], o: usize, v: Vector) -> usize
+// Writes a point, and says where the next goes; h halvings were made so far.
+fn add_point(out: &mut [f64], o: usize, h: usize, v: Vector) -> Mark
     requires { ⌜ o < mostPoints ⌝ }
-    ensures { λ r. ⌜ pen (now (out .exit)) r ≡ inked putPoints (pen (now (out .entry)) o) (one v .points) ⌝ }
+    ensures { λ r. ⌜ Inks (one v) (pen (now (out .entry)) o) h (pen (now (out .exit)) (r .points)) (r .halvings) ⌝ }
 {
     put_point(out, o, v);
-    o + 1
+    Mark {
+        points: o + 1,
+        halvings: h,
+    }
 }
 
-// Writes the points of the walk of a span that is halved from place o on, where it does not end too deep, and says where the next goes.
+// Writes the points of the walk of a span that is halved from place o on, where it does not end too deep, says where the next goes,
+// and adds its halvings to h: this one, then those of the left half, then those of the right.
 fn halve(
     lens: &[f64; 20],
     a: Vector,
@@ -285,28 +301,42 @@ fn halve(
     depth: u32,
     out: &mut [f64],
     o: usize,
-) -> usize
+    h: usize,
+) -> Mark
     requires { ⌜ (endsOf (viewAt (now lens)) (record { here = a; seen = s }) (record { here = b; seen = t }) ≡ false)
-        × (walk depth (viewAt (now lens)) (record { here = a; seen = s }) (record { here = b; seen = t }) .deep ≡ false)
-        × (o + length (walk depth (viewAt (now lens)) (record { here = a; seen = s }) (record { here = b; seen = t }) .points) ≤ mostPoints) ⌝ }
-    ensures { λ r. ⌜ pen (now (out .exit)) r ≡ inked putPoints (pen (now (out .entry)) o) (walk depth (viewAt (now (lens .entry))) (record { here = a; seen = s }) (record { here = b; seen = t }) .points) ⌝ }
+        × Fits (walk depth (viewAt (now lens)) (record { here = a; seen = s }) (record { here = b; seen = t })) o h ⌝ }
+    ensures { λ r. ⌜ Inks (walk depth (viewAt (now (lens .entry))) (record { here = a; seen = s }) (record { here = b; seen = t })) (pen (now (out .entry)) o) h (pen (now (out .exit)) (r .points)) (r .halvings) ⌝ }
 {
     if depth == 0 {
-        return o;
+        return Mark {
+            points: o,
+            halvings: h,
+        };
     }
     let view = view_at(lens);
     let p = Shown { here: a, seen: s };
     let q = Shown { here: b, seen: t };
     let m = middle(view, p, q);
+    let k = h + 1;
     let l = if ends(view, p, m) {
-        add_point(out, o, m.here)
+        add_point(out, o, k, m.here)
     } else {
-        halve(lens, a, s, m.here, m.seen, depth - 1, out, o)
+        halve(lens, a, s, m.here, m.seen, depth - 1, out, o, k)
     };
     if ends(view, m, q) {
-        return add_point(out, l, b);
+        return add_point(out, l.points, l.halvings, b);
     }
-    halve(lens, m.here, m.seen, b, t, depth - 1, out, l)
+    halve(
+        lens,
+        m.here,
+        m.seen,
+        b,
+        t,
+        depth - 1,
+        out,
+        l.points,
+        l.halvings,
+    )
 }
 
 // What the walk of a span meets.
@@ -384,14 +414,14 @@ fn measure_strokes(lens: &[f64; 20], points: &[f64], starts: &[u32], t: Tally) -
 }
 
 // Writes what a span gives.
-fn write_span(lens: &[f64; 20], a: Shown, b: Shown, out: &mut [f64], o: usize) -> usize
-    requires { ⌜ (walk 64 (viewAt (now lens)) a b .deep ≡ false) × (o + length (walk 64 (viewAt (now lens)) a b .points) ≤ mostPoints) ⌝ }
-    ensures { λ r. ⌜ pen (now (out .exit)) r ≡ inked putPoints (pen (now (out .entry)) o) (walk 64 (viewAt (now (lens .entry))) a b .points) ⌝ }
+fn write_span(lens: &[f64; 20], a: Shown, b: Shown, out: &mut [f64], o: usize, h: usize) -> Mark
+    requires { ⌜ Fits (walk 64 (viewAt (now lens)) a b) o h ⌝ }
+    ensures { λ r. ⌜ Inks (walk 64 (viewAt (now (lens .entry))) a b) (pen (now (out .entry)) o) h (pen (now (out .exit)) (r .points)) (r .halvings) ⌝ }
 {
     if ends(view_at(lens), a, b) {
-        return add_point(out, o, b.here);
+        return add_point(out, o, h, b.here);
     }
-    halve(lens, a.here, a.seen, b.here, b.seen, DEPTH, out, o)
+    halve(lens, a.here, a.seen, b.here, b.seen, DEPTH, out, o, h)
 }
 
 // Writes what the spans over the points from place i up to e give.
@@ -403,17 +433,20 @@ fn write_spans(
     first: Shown,
     out: &mut [f64],
     o: usize,
-) -> usize
-    requires { ⌜ (walkFrom (viewAt (now lens)) first (gather (pointAt (now points)) i (e - i)) .deep ≡ false)
-        × (o + length (walkFrom (viewAt (now lens)) first (gather (pointAt (now points)) i (e - i)) .points) ≤ mostPoints) ⌝ }
-    ensures { λ r. ⌜ pen (now (out .exit)) r ≡ inked putPoints (pen (now (out .entry)) o) (walkFrom (viewAt (now (lens .entry))) first (gather (pointAt (now (points .entry))) i (e - i)) .points) ⌝ }
+    h: usize,
+) -> Mark
+    requires { ⌜ Fits (walkFrom (viewAt (now lens)) first (gather (pointAt (now points)) i (e - i))) o h ⌝ }
+    ensures { λ r. ⌜ Inks (walkFrom (viewAt (now (lens .entry))) first (gather (pointAt (now (points .entry))) i (e - i))) (pen (now (out .entry)) o) h (pen (now (out .exit)) (r .points)) (r .halvings) ⌝ }
 {
     let mut j = i;
     let mut p = first;
-    let mut k = o;
+    let mut k = Mark {
+        points: o,
+        halvings: h,
+    };
     while j < e {
         let q = show(view_at(lens), point_at(points, j));
-        k = write_span(lens, p, q, out, k);
+        k = write_span(lens, p, q, out, k.points, k.halvings);
         p = q;
         j += 1;
     }
@@ -428,14 +461,23 @@ fn write_adapted(
     e: usize,
     out: &mut [f64],
     o: usize,
-) -> usize
-    requires { ⌜ (a < e) × (strokeOf (viewAt (now lens)) (gather (pointAt (now points)) a (e - a)) .deep ≡ false)
-        × (o + length (strokeOf (viewAt (now lens)) (gather (pointAt (now points)) a (e - a)) .points) ≤ mostPoints) ⌝ }
-    ensures { λ r. ⌜ pen (now (out .exit)) r ≡ inked putPoints (pen (now (out .entry)) o) (strokeOf (viewAt (now (lens .entry))) (gather (pointAt (now (points .entry))) a (e - a)) .points) ⌝ }
+    h: usize,
+) -> Mark
+    requires { ⌜ (a < e) × Fits (strokeOf (viewAt (now lens)) (gather (pointAt (now points)) a (e - a))) o h ⌝ }
+    ensures { λ r. ⌜ Inks (strokeOf (viewAt (now (lens .entry))) (gather (pointAt (now (points .entry))) a (e - a))) (pen (now (out .entry)) o) h (pen (now (out .exit)) (r .points)) (r .halvings) ⌝ }
 {
     let v = point_at(points, a);
-    let k = add_point(out, o, v);
-    write_spans(lens, points, a + 1, e, show(view_at(lens), v), out, k)
+    let k = add_point(out, o, h, v);
+    write_spans(
+        lens,
+        points,
+        a + 1,
+        e,
+        show(view_at(lens), v),
+        out,
+        k.points,
+        k.halvings,
+    )
 }
 
 // Writes a stroke and its start; of an empty one nothing.
@@ -446,22 +488,28 @@ fn write_stroke(
     e: usize,
     out_points: &mut [f64],
     out_starts: &mut [u32],
-    w: Place,
-) -> Place
-    requires { ⌜ (strokeOf (viewAt (now lens)) (gather (pointAt (now points)) a (e - a)) .deep ≡ false)
-        × (w .points + length (strokeOf (viewAt (now lens)) (gather (pointAt (now points)) a (e - a)) .points) ≤ mostPoints) × (w .starts ≤ mostPoints) ⌝ }
-    ensures { λ r. ⌜ out (now («out_points» .exit)) (now («out_starts» .exit)) r
-        ≡ push putPoints (out (now («out_points» .entry)) (now («out_starts» .entry)) w) (strokeOf (viewAt (now (lens .entry))) (gather (pointAt (now (points .entry))) a (e - a)) .points) ⌝ }
+    w: Made,
+) -> Made
+    requires { ⌜ Fits (strokeOf (viewAt (now lens)) (gather (pointAt (now points)) a (e - a))) (w .place .points) (w .halvings) × (w .place .starts ≤ mostPoints) ⌝ }
+    ensures { λ r. ⌜ (out (now («out_points» .exit)) (now («out_starts» .exit)) (r .place)
+        ≡ push putPoints (out (now («out_points» .entry)) (now («out_starts» .entry)) (w .place)) (strokeOf (viewAt (now (lens .entry))) (gather (pointAt (now (points .entry))) a (e - a)) .points))
+        × (r .halvings ≡ w .halvings + strokeOf (viewAt (now (lens .entry))) (gather (pointAt (now (points .entry))) a (e - a)) .halvings) ⌝ }
 {
     if e <= a {
         return w;
     }
-    let at = w.points;
-    let k = w.starts;
+    let p = w.place;
+    let at = p.points;
+    let k = p.starts;
     put_number(out_starts, k, at as u32);
-    Place {
-        points: write_adapted(lens, points, a, e, out_points, at),
+    let m = write_adapted(lens, points, a, e, out_points, at, w.halvings);
+    let next = Place {
+        points: m.points,
         starts: k + 1,
+    };
+    Made {
+        place: next,
+        halvings: m.halvings,
     }
 }
 
@@ -472,15 +520,20 @@ fn write_strokes(
     starts: &[u32],
     out_points: &mut [f64],
     out_starts: &mut [u32],
-) -> Place
+) -> Made
     requires { ⌜ Calm (walksOf (viewAt (now lens)) (now points) (now starts)) × (length (joined (adapted (walksOf (viewAt (now lens)) (now points) (now starts)))) ≤ mostPoints)
-        × (length (now starts) ≤ mostPoints) ⌝ }
-    ensures { λ r. ⌜ out (now («out_points» .exit)) (now («out_starts» .exit)) r
-        ≡ pushAll putPoints (out (now («out_points» .entry)) (now («out_starts» .entry)) (record { points = 0; starts = 0 })) (adapted (walksOf (viewAt (now (lens .entry))) (now (points .entry)) (now (starts .entry)))) ⌝ }
+        × (length (now starts) ≤ mostPoints) × (halvingsOf (walksOf (viewAt (now lens)) (now points) (now starts)) ≤ mostPoints) ⌝ }
+    ensures { λ r. ⌜ (out (now («out_points» .exit)) (now («out_starts» .exit)) (r .place)
+        ≡ pushAll putPoints (out (now («out_points» .entry)) (now («out_starts» .entry)) (record { points = 0; starts = 0 })) (adapted (walksOf (viewAt (now (lens .entry))) (now (points .entry)) (now (starts .entry)))))
+        × (r .halvings ≡ halvingsOf (walksOf (viewAt (now (lens .entry))) (now (points .entry)) (now (starts .entry)))) ⌝ }
 {
-    let mut w = Place {
+    let front = Place {
         points: 0,
         starts: 0,
+    };
+    let mut w = Made {
+        place: front,
+        halvings: 0,
     };
     let mut i = 0;
     while i < starts.len() {
@@ -644,10 +697,11 @@ pub fn chop_adaptive(
         Verdict::Accepted => {
             let lens = lens_of(view_of(matrix, width, height, step, tolerance));
             let w = write_strokes(&lens, points, starts, out_points, out_starts);
+            let p = w.place;
             Adapted::Wrote {
-                points: w.points,
-                starts: w.starts,
-                halvings: w.points - points.len() / 3,
+                points: p.points,
+                starts: p.starts,
+                halvings: w.halvings,
             }
         }
         Verdict::Refused(r) => Adapted::Refused(r),

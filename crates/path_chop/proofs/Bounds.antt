@@ -25,7 +25,7 @@ use Rattle.path_chop.specs.Chop.{tooMany, stepsOf, spans, capped}
 use Rattle.path_chop.specs.Call.{roomFor}
 use Rattle.path_chop.proofs.Counts.{spans-count, cap-cap, cap-under, cap-over, cap-most, cap-small}
 use Rattle.path.proofs.Tests.{split}
-use Rattle.path_chop.proofs.Chops.{spans-none}
+use Rattle.path_chop.proofs.Chops.{steps-within, spans-none}
 
 -- how many steps lie within a span whose squared length is s
 abbrev pub reach : Float → Float → ℕ
@@ -81,8 +81,8 @@ longest-start i n x = omega arith
 
 -- a turn of the loop that looks for the longest span, from place j on
 pub longest-turn : (step : Float) (at : ℕ → Vector) (i j e all : ℕ) (p q v : Vector) (m s w : Float) → i ≤ j → j < e → q ≡ at j → v ≡ subOf q p → s ≡ lengthSquaredOf v → Reaches m s w
-    → all ≤ (j - i) * (reach m step + 1) + length (spans step p (gather at j (e - j)))
-    → all ≤ (j + 1 - i) * (reach w step + 1) + length (spans step q (gather at (j + 1) (e - (j + 1))))
+    → all ≤ (j - i) * (reach m step + 1) + length (spans tooMany step p (gather at j (e - j)))
+    → all ≤ (j + 1 - i) * (reach w step + 1) + length (spans tooMany step q (gather at (j + 1) (e - (j + 1))))
 longest-turn step at i j e all p q v m s w h l f g k r a =
     let n = spans-count step at j e p l q f v g (rooted s) (ap rooted k) in
     let d : j + 1 - i ≡ suc (j - i) = omega arith in
@@ -97,7 +97,7 @@ squared-fits v s e = subst (λ (z : Float). T (fits binary64 z)) (sym e) (add-fi
 
 -- at the end of it
 pub longest-end : (step : Float) (at : ℕ → Vector) (i j e all : ℕ) (p : Vector) (m : Float) → e ≤ j → j - i ≤ e - i
-    → all ≤ (j - i) * (reach m step + 1) + length (spans step p (gather at j (e - j))) → all ≤ (e - i) * (reach m step + 1)
+    → all ≤ (j - i) * (reach m step + 1) + length (spans tooMany step p (gather at j (e - j))) → all ≤ (e - i) * (reach m step + 1)
 longest-end step at i j e all p m l h a =
     let z = ap length (spans-none step at j e p l) in
     omega (arith, mul-le-mul-right (reach m step + 1) h)
@@ -111,9 +111,13 @@ cap-mono a b h = ⊎-elim (λ l. omega (arith, cap-under b l, cap-under a (omega
 pub product : (k n : ℕ) → k ≤ tooMany / n → k * n ≤ tooMany
 product k n h = le-trans (mul-le-mul-right n h) (omega (arith, div-add-mod' tooMany n))
 
--- a stroke whose k spans have at most r steps each
-pub stroke-bound : (before k n all sum r : ℕ) → all ≡ sum + 1 → sum ≤ k * (r + 1) → n ≡ r → before + all ≤ before + 1 + k * (n + 1)
-stroke-bound before k n all sum r e h f = rw f (omega arith)
+-- a stroke of k spans, of which the longest has the steps counted, up to the most that may follow
+pub stroke-bound : (before k n all sum : ℕ) (l step : Float) → before ≤ tooMany → 1 ≤ k → all ≡ sum + 1 → sum ≤ k * (length (stepsOf tooMany l step step) + 1)
+    → n ≡ length (stepsOf (tooMany - before) l step step) → capped (before + all) ≤ capped (before + 1 + k * (n + 1))
+stroke-bound before k n all sum l step b p e h f =
+    ⊎-elim (λ t. cap-mono (before + all) (before + 1 + k * (n + 1)) (let m : n ≡ length (stepsOf tooMany l step step) = f ∙ ap length (sym t) in rw m (omega arith)))
+    (λ t. let m : 1 * (n + 1) ≤ k * (n + 1) = mul-le-mul-right (n + 1) p in omega (arith, cap-most (before + all), cap-over (before + 1 + k * (n + 1)) (omega arith)))
+    (steps-within before l step b)
 
 -- a turn of the loop over the strokes
 pub bound-turn : (n m s j all most : ℕ) → capped (n + s) ≤ m → all ≡ s + j → most ≤ capped (n + all) → most ≤ capped (m + j)

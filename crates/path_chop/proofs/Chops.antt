@@ -1,8 +1,9 @@
 -- Laws of chopping, and of the points written by it. Assumes nothing.
-use mathlib.Core.Path.{_≡_, refl, sym, ap, _∙_}
-use mathlib.Core.Bool.{true, false}
+use mathlib.Core.Path.{_≡_, refl, sym, ap, subst, _∙_}
+use mathlib.Core.Bool.{Bool, true, false, cond}
+use mathlib.Core.Logic.{_⊎_, inl, inr, ⊎-elim}
 use mathlib.Core.List.{List, [], _∷_, _++_, map}
-use Prim.Native.Nat.{ℕ, zero, suc, _+_, _-_, _/_, _≤_, _<_}
+use Prim.Native.Nat.{ℕ, zero, suc, zero-le, _+_, _-_, _/_, _≤_, _<_}
 use native.Mathlib.Omega.{arith}
 use lib.ListN.{length, getD, drop, length-append, length-map}
 use lib.Ieee.{Float, binary64, add, lt}
@@ -14,7 +15,7 @@ use Rattle.path.specs.Laid.{putPoint, putPoints, Pen, pen, inked}
 use Rattle.path.proofs.Gathers.{gather-more, gather-none, length-gather, strokes-more, strokes-none}
 use Rattle.path.proofs.Pushes.{ink-at, ink-none, ink-append}
 use Rattle.path.proofs.Points.{points-lie, ink-more}
-use Rattle.path_chop.specs.Chop.{tooMany, along, stepsOf, cut, span, spans, chopped, choppedOf}
+use Rattle.path_chop.specs.Chop.{tooMany, along, stepsOf, cut, span, spans, chopped, choppedBy, choppedOf}
 
 -- ---- the steps of a span
 
@@ -34,6 +35,25 @@ module _ (n k : ℕ) (l step d : Float) where
   pub steps-none : k ≤ n → stepsOf (k - n) l step d ≡ []
   unfolding stepsOf
   steps-none h = let e : k - n ≡ 0 = omega arith in rw e
+
+-- either the first k are all, or there are k of them at least
+abbrev Limited : ℕ → List Float → List Float → Type 0
+Limited k some all = (all ≡ some) ⊎ ((length some ≡ k) × (k ≤ length all))
+
+limit-more : (k : ℕ) (x : Bool) (d : Float) (some all : List Float) → Limited k some all → Limited (suc k) (cond x (d ∷ some) []) (cond x (d ∷ all) [])
+limit-more k true d some all h = ⊎-elim (λ e. inl (ap (λ (s : List Float). d ∷ s) e)) (λ e. inr (omega arith, omega arith)) h
+limit-more k false d some all h = inl refl
+
+pub steps-limit : (k n : ℕ) (l step d : Float) → Limited k (stepsOf k l step d) (stepsOf (k + n) l step d)
+unfolding stepsOf
+steps-limit zero n l step d = inr (refl, zero-le)
+steps-limit (suc k) n l step d = let e : suc k + n ≡ suc (k + n) = omega arith in rw e (limit-more k (lt d l) d _ _ (steps-limit k n l step (add binary64 d step)))
+
+-- steps counted only up to the most that may follow
+pub steps-within : (so-far : ℕ) (l step : Float) → so-far ≤ tooMany → Limited (tooMany - so-far) (stepsOf (tooMany - so-far) l step step) (stepsOf tooMany l step step)
+steps-within so-far l step h =
+    let e : tooMany - so-far + so-far ≡ tooMany = omega arith in
+    subst (λ (n : ℕ). Limited (tooMany - so-far) (stepsOf (tooMany - so-far) l step step) (stepsOf n l step step)) e (steps-limit (tooMany - so-far) so-far l step step)
 
 -- the loop that writes them
 module _ (f : Float → Vector) (n k : ℕ) (l step d : Float) (b : List Float) (o : ℕ) where
@@ -56,24 +76,24 @@ module _ (f : Float → Vector) (n k : ℕ) (l step d : Float) (b : List Float) 
 -- ---- a span: what its steps give, and its end
 
 module _ (step : Float) (a b : Vector) (v : Vector) (l : Float) (ev : v ≡ subOf b a) (el : l ≡ lengthOf v) where
-  span-is : span step a b ≡ map (along a v l) (stepsOf tooMany l step step) ++ (b ∷ [])
+  span-is : span tooMany step a b ≡ map (along a v l) (stepsOf tooMany l step step) ++ (b ∷ [])
   unfolding span cut
   span-is = rw (el, ev)
 
-  pub span-length : length (span step a b) ≡ length (stepsOf tooMany l step step) + 1
+  pub span-length : length (span tooMany step a b) ≡ length (stepsOf tooMany l step step) + 1
   span-length =
       let ds = stepsOf tooMany l step step in
       ap length span-is ∙ omega (arith, length-append (map (along a v l) ds) (b ∷ []), length-map ds (along a v l))
 
   pub span-at : (p : Pen Float) (q : List Float) (o : ℕ) → pen q o ≡ inked putPoints p (map (along a v l) (stepsOf tooMany l step step))
-      → o + 1 ≡ p .at + length (span step a b)
+      → o + 1 ≡ p .at + length (span tooMany step a b)
   unfolding inked
   span-at p q o e =
       let n : o ≡ p .at + length (map (along a v l) (stepsOf tooMany l step step)) = ap (λ (x : Pen Float). x .at) e in
       omega (arith, span-length, length-map (stepsOf tooMany l step step) (along a v l))
 
   pub span-ink : (p : Pen Float) (q : List Float) (o : ℕ) → pen q o ≡ inked putPoints p (map (along a v l) (stepsOf tooMany l step step))
-      → {q′ : List Float} → q′ ≡ putPoint q o b → pen q′ (o + 1) ≡ inked putPoints p (span step a b)
+      → {q′ : List Float} → q′ ≡ putPoint q o b → pen q′ (o + 1) ≡ inked putPoints p (span tooMany step a b)
   span-ink p q o e g =
       let ds = map (along a v l) (stepsOf tooMany l step step) in
       rw (g, span-is)
@@ -82,66 +102,66 @@ module _ (step : Float) (a b : Vector) (v : Vector) (l : Float) (ev : v ≡ subO
 -- ---- the spans of a stroke
 
 module _ (step : Float) (at : ℕ → Vector) (i e : ℕ) (p : Vector) where
-  pub spans-more : i < e → (q : Vector) → q ≡ at i → spans step p (gather at i (e - i)) ≡ span step p q ++ spans step q (gather at (i + 1) (e - (i + 1)))
+  pub spans-more : i < e → (q : Vector) → q ≡ at i → spans tooMany step p (gather at i (e - i)) ≡ span tooMany step p q ++ spans tooMany step q (gather at (i + 1) (e - (i + 1)))
   unfolding spans
   spans-more h q f = rw (gather-more at i e h, f)
 
-  pub spans-none : e ≤ i → spans step p (gather at i (e - i)) ≡ []
+  pub spans-none : e ≤ i → spans tooMany step p (gather at i (e - i)) ≡ []
   unfolding spans
   spans-none h = rw (gather-none at i e h)
 
-  pub spans-turn : i < e → (q : Vector) → q ≡ at i → (x y : Pen Float) → y ≡ inked putPoints x (span step p q)
-      → inked putPoints y (spans step q (gather at (i + 1) (e - (i + 1)))) ≡ inked putPoints x (spans step p (gather at i (e - i)))
-  spans-turn h q f x y g = rw (g, spans-more h q f) (ink-append points-lie x (span step p q) (spans step q (gather at (i + 1) (e - (i + 1)))))
+  pub spans-turn : i < e → (q : Vector) → q ≡ at i → (x y : Pen Float) → y ≡ inked putPoints x (span tooMany step p q)
+      → inked putPoints y (spans tooMany step q (gather at (i + 1) (e - (i + 1)))) ≡ inked putPoints x (spans tooMany step p (gather at i (e - i)))
+  spans-turn h q f x y g = rw (g, spans-more h q f) (ink-append points-lie x (span tooMany step p q) (spans tooMany step q (gather at (i + 1) (e - (i + 1)))))
 
-  pub spans-end : e ≤ i → (x : Pen Float) → inked putPoints x (spans step p (gather at i (e - i))) ≡ x
+  pub spans-end : e ≤ i → (x : Pen Float) → inked putPoints x (spans tooMany step p (gather at i (e - i))) ≡ x
   spans-end h x = rw (spans-none h) (ink-none points-lie x)
 
   -- the next span does not pass what all come to
-  pub spans-room : i < e → (q : Vector) → q ≡ at i → (x y : Pen Float) (vs : List Vector) → inked putPoints x (spans step p (gather at i (e - i))) ≡ inked putPoints y vs
-      → x .at + length (span step p q) ≤ y .at + length vs
+  pub spans-room : i < e → (q : Vector) → q ≡ at i → (x y : Pen Float) (vs : List Vector) → inked putPoints x (spans tooMany step p (gather at i (e - i))) ≡ inked putPoints y vs
+      → x .at + length (span tooMany step p q) ≤ y .at + length vs
   spans-room h q f x y vs g =
       omega (
         arith,
-        ink-at putPoints x y (spans step p (gather at i (e - i))) vs g,
+        ink-at putPoints x y (spans tooMany step p (gather at i (e - i))) vs g,
         ap length (spans-more h q f),
-        length-append (span step p q) (spans step q (gather at (i + 1) (e - (i + 1)))),
+        length-append (span tooMany step p q) (spans tooMany step q (gather at (i + 1) (e - (i + 1)))),
       )
 
 -- ---- a stroke
 
-pub chopped-short : (step : Float) (s : List Vector) → length s < 2 → chopped step s ≡ []
+pub chopped-short : (step : Float) (s : List Vector) → length s < 2 → chopped tooMany step s ≡ []
 unfolding chopped
 chopped-short step [] h = refl
 chopped-short step (a ∷ []) h = refl
 chopped-short step (a ∷ b ∷ s) h = absurd (omega arith)
 
 module _ (step : Float) (at : ℕ → Vector) (a e : ℕ) where
-  pub stroke-short : e - a < 2 → length (chopped step (gather at a (e - a))) ≡ 0
+  pub stroke-short : e - a < 2 → length (chopped tooMany step (gather at a (e - a))) ≡ 0
   stroke-short h = ap length (chopped-short step (gather at a (e - a)) (omega (arith, length-gather at a (e - a))))
 
-  pub chopped-long : a + 2 ≤ e → (p : Vector) → p ≡ at a → chopped step (gather at a (e - a)) ≡ p ∷ spans step p (gather at (a + 1) (e - (a + 1)))
+  pub chopped-long : a + 2 ≤ e → (p : Vector) → p ≡ at a → chopped tooMany step (gather at a (e - a)) ≡ p ∷ spans tooMany step p (gather at (a + 1) (e - (a + 1)))
   unfolding chopped
   chopped-long h p f = rw (gather-more at a e (omega arith), gather-more at (a + 1) e (omega arith), f)
 
-  pub chopped-length : a + 2 ≤ e → (p : Vector) → p ≡ at a → length (chopped step (gather at a (e - a))) ≡ length (spans step p (gather at (a + 1) (e - (a + 1)))) + 1
+  pub chopped-length : a + 2 ≤ e → (p : Vector) → p ≡ at a → length (chopped tooMany step (gather at a (e - a))) ≡ length (spans tooMany step p (gather at (a + 1) (e - (a + 1)))) + 1
   chopped-length h p f = omega (arith, ap length (chopped-long h p f))
 
-  pub stroke-some : a + 2 ≤ e → 0 < length (chopped step (gather at a (e - a)))
+  pub stroke-some : a + 2 ≤ e → 0 < length (chopped tooMany step (gather at a (e - a)))
   stroke-some h = omega (arith, chopped-length h (at a) refl)
 
   pub chopped-ink : a + 2 ≤ e → (p : Vector) → p ≡ at a → (b q : List Float) (o : ℕ) (y : Pen Float) → q ≡ putPoint b o p
-      → y ≡ inked putPoints (pen q (o + 1)) (spans step p (gather at (a + 1) (e - (a + 1)))) → y ≡ inked putPoints (pen b o) (chopped step (gather at a (e - a)))
-  chopped-ink h p f b q o y g k = k ∙ rw (g, chopped-long h p f) (ink-more b o p (spans step p (gather at (a + 1) (e - (a + 1)))))
+      → y ≡ inked putPoints (pen q (o + 1)) (spans tooMany step p (gather at (a + 1) (e - (a + 1)))) → y ≡ inked putPoints (pen b o) (chopped tooMany step (gather at a (e - a)))
+  chopped-ink h p f b q o y g k = k ∙ rw (g, chopped-long h p f) (ink-more b o p (spans tooMany step p (gather at (a + 1) (e - (a + 1)))))
 
 -- ---- the strokes from the i-th on
 
 module _ (step : Float) (ps : List Float) (ss : List ℕ) (i : ℕ) where
   pub chopped-more : (e : ℕ) → i < length ss → e ≡ getD ss (i + 1) (length ps / 3)
-      → choppedOf step ps (drop i ss) ≡ chopped step (gather (pointAt ps) (getD ss i 0) (e - getD ss i 0)) ∷ choppedOf step ps (drop (i + 1) ss)
-  unfolding choppedOf
-  chopped-more = strokes-more (chopped step) (pointAt ps) (length ps / 3) ss i
+      → choppedOf step ps (drop i ss) ≡ chopped tooMany step (gather (pointAt ps) (getD ss i 0) (e - getD ss i 0)) ∷ choppedOf step ps (drop (i + 1) ss)
+  unfolding choppedBy
+  chopped-more = strokes-more (chopped tooMany step) (pointAt ps) (length ps / 3) ss i
 
   pub chopped-none : length ss ≤ i → choppedOf step ps (drop i ss) ≡ []
-  unfolding choppedOf
-  chopped-none = strokes-none (chopped step) (pointAt ps) (length ps / 3) ss i
+  unfolding choppedBy
+  chopped-none = strokes-none (chopped tooMany step) (pointAt ps) (length ps / 3) ss i

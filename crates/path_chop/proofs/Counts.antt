@@ -17,7 +17,7 @@ use Rattle.path.specs.Laid.{joined, nonEmpty}
 use Rattle.path.proofs.Tests.{split}
 use Rattle.path.proofs.Pushes.{some-kept, none-kept}
 use Rattle.path_chop.specs.Chop.{tooMany, stepsOf, span, spans, chopped, keptOf, capped}
-use Rattle.path_chop.proofs.Chops.{span-length, spans-more, stroke-short, stroke-some}
+use Rattle.path_chop.proofs.Chops.{steps-within, span-length, spans-more, stroke-short, stroke-some}
 
 -- ---- a count that is cut off
 
@@ -43,6 +43,14 @@ cap-small n r e h = ⊎-elim (λ l. e ∙ cap-under n l) (λ l. absurd (omega (a
 pub cap-most : (n : ℕ) → capped n ≤ tooMany
 cap-most n = ⊎-elim (λ l. omega (arith, cap-under n l)) (λ l. omega (arith, cap-over n (omega arith))) (split n tooMany)
 
+-- a span whose steps are counted only up to the most that may follow
+pub count-within : (so-far rest : ℕ) (l step : Float) → so-far ≤ tooMany
+    → capped (so-far + length (stepsOf (tooMany - so-far) l step step) + 1 + rest) ≡ capped (so-far + length (stepsOf tooMany l step step) + 1 + rest)
+count-within so-far rest l step h =
+    ⊎-elim (λ e. ap (λ (s : List Float). capped (so-far + length s + 1 + rest)) (sym e))
+    (λ e. cap-over (so-far + length (stepsOf (tooMany - so-far) l step step) + 1 + rest) (omega arith) ∙ sym (cap-over (so-far + length (stepsOf tooMany l step step) + 1 + rest) (omega arith)))
+    (steps-within so-far l step h)
+
 -- ---- strokes that are kept
 
 pub kept-some : (n : ℕ) → 2 ≤ n → keptOf n ≡ 1
@@ -66,22 +74,22 @@ kept-most n = ⊎-elim (λ h. omega (arith, kept-some n h)) (λ h. omega (arith,
 -- ---- one span, one stroke more in the count
 
 pub spans-count : (step : Float) (at : ℕ → Vector) (i e : ℕ) (p : Vector) → i < e → (q : Vector) → q ≡ at i → (v : Vector) → v ≡ subOf q p → (l : Float) → l ≡ lengthOf v
-    → length (spans step p (gather at i (e - i))) ≡ length (stepsOf tooMany l step step) + 1 + length (spans step q (gather at (i + 1) (e - (i + 1))))
+    → length (spans tooMany step p (gather at i (e - i))) ≡ length (stepsOf tooMany l step step) + 1 + length (spans tooMany step q (gather at (i + 1) (e - (i + 1))))
 spans-count step at i e p h q f v g l k =
-    ap length (spans-more step at i e p h q f) ∙ length-append (span step p q) (spans step q (gather at (i + 1) (e - (i + 1))))
-    ∙ ap (λ (n : ℕ). n + length (spans step q (gather at (i + 1) (e - (i + 1))))) (span-length step p q v l g k)
+    ap length (spans-more step at i e p h q f) ∙ length-append (span tooMany step p q) (spans tooMany step q (gather at (i + 1) (e - (i + 1))))
+    ∙ ap (λ (n : ℕ). n + length (spans tooMany step q (gather at (i + 1) (e - (i + 1))))) (span-length step p q v l g k)
 
-module _ (step : Float) (at : ℕ → Vector) (a e : ℕ) {rest all : List (List Vector)} (f : all ≡ chopped step (gather at a (e - a)) ∷ rest) where
-  pub joined-count : length (joined all) ≡ length (chopped step (gather at a (e - a))) + length (joined rest)
+module _ (step : Float) (at : ℕ → Vector) (a e : ℕ) {rest all : List (List Vector)} (f : all ≡ chopped tooMany step (gather at a (e - a)) ∷ rest) where
+  pub joined-count : length (joined all) ≡ length (chopped tooMany step (gather at a (e - a))) + length (joined rest)
   unfolding joined
-  joined-count = rw f (length-append (chopped step (gather at a (e - a))) (joined rest))
+  joined-count = rw f (length-append (chopped tooMany step (gather at a (e - a))) (joined rest))
 
   pub kept-count : length (nonEmpty all) ≡ keptOf (e - a) + length (nonEmpty rest)
   kept-count =
       rw f
       (⊎-elim
-      (λ h. omega (arith, kept-some (e - a) h, some-kept (chopped step (gather at a (e - a))) rest (stroke-some step at a e (omega arith))))
-      (λ h. omega (arith, kept-none (e - a) h, none-kept (chopped step (gather at a (e - a))) rest (stroke-short step at a e h)))
+      (λ h. omega (arith, kept-some (e - a) h, some-kept (chopped tooMany step (gather at a (e - a))) rest (stroke-some step at a e (omega arith))))
+      (λ h. omega (arith, kept-none (e - a) h, none-kept (chopped tooMany step (gather at a (e - a))) rest (stroke-short step at a e h)))
       (split 2 (e - a)))
 
 -- a turn of the loop that counts the strokes, where n points are counted so far

@@ -11,7 +11,7 @@ use Rattle.vector.specs.Vectors.{addOf, subOf, mulScalarOf}
 use Rattle.vector.specs.Lengths.{lengthOf}
 use Rattle.path.specs.Strokes.{pointAt, strokesOf}
 
--- one point above the most that may be written: no more are looked at
+-- one point above the most that may be written: no more are taken of a span. No accepted chop takes so many (`never-cut-off`, proofs/Uncut).
 abbrev pub tooMany : ℕ
 tooMany = mostPoints + 1
 
@@ -24,27 +24,30 @@ unfoldable pub stepsOf : ℕ → Float → Float → Float → List Float
 stepsOf zero l step d = []
 stepsOf (suc n) l step d = let r = d ∷ stepsOf n l step (add binary64 d step) in cond (lt d l) r []
 
--- what a span from a to b gives after a, where v is b from a and l its length
-unfoldable pub cut : Float → Vector → Vector → Vector → Float → List Vector
-cut step a b v l = map (along a v l) (stepsOf tooMany l step step) ++ (b ∷ [])
+-- what a span from a to b gives after a, where v is b from a and l its length: n steps at most, and b
+unfoldable pub cut : ℕ → Float → Vector → Vector → Vector → Float → List Vector
+cut n step a b v l = map (along a v l) (stepsOf n l step step) ++ (b ∷ [])
 
-unfoldable pub span : Float → Vector → Vector → List Vector
-span step a b = cut step a b (subOf b a) (lengthOf (subOf b a))
+unfoldable pub span : ℕ → Float → Vector → Vector → List Vector
+span n step a b = cut n step a b (subOf b a) (lengthOf (subOf b a))
 
 -- the spans from a over the points that follow it
-unfoldable pub spans : Float → Vector → List Vector → List Vector
-spans step a [] = []
-spans step a (b ∷ vs) = span step a b ++ spans step b vs
+unfoldable pub spans : ℕ → Float → Vector → List Vector → List Vector
+spans n step a [] = []
+spans n step a (b ∷ vs) = span n step a b ++ spans n step b vs
 
 -- a stroke of one point vanishes
-unfoldable pub chopped : Float → List Vector → List Vector
-chopped step [] = []
-chopped step (a ∷ []) = []
-chopped step (a ∷ b ∷ vs) = a ∷ spans step a (b ∷ vs)
+unfoldable pub chopped : ℕ → Float → List Vector → List Vector
+chopped n step [] = []
+chopped n step (a ∷ []) = []
+chopped n step (a ∷ b ∷ vs) = a ∷ spans n step a (b ∷ vs)
 
--- every stroke of the list
-unfoldable pub choppedOf : Float → List Float → List ℕ → List (List Vector)
-choppedOf step ps ss = map (chopped step) (strokesOf (pointAt ps) (length ps / 3) ss)
+-- every stroke of the list, n steps a span at most
+unfoldable pub choppedBy : ℕ → Float → List Float → List ℕ → List (List Vector)
+choppedBy n step ps ss = map (chopped n step) (strokesOf (pointAt ps) (length ps / 3) ss)
+
+abbrev pub choppedOf : Float → List Float → List ℕ → List (List Vector)
+choppedOf step ps ss = choppedBy tooMany step ps ss
 
 -- 1 where a stroke of n points leaves something, 0 where it vanishes
 unfoldable pub keptOf : ℕ → ℕ

@@ -39,13 +39,13 @@ pub enum Chopped {
 // No more points than these are looked at in one span.
 const TOO_MANY: usize = MOST_POINTS + 1;
 
-// How many points lie within a span of length l. d is a running sum, as the source's.
-fn count_steps(l: f64, step: f64) -> usize
-    ensures { λ r. ⌜ (r ≡ length (stepsOf tooMany l step step)) × (r ≤ tooMany) ⌝ }
+// How many points lie within a span of length l, no more than most of them counted. d is a running sum, as the source's.
+fn count_steps(l: f64, step: f64, most: usize) -> usize
+    ensures { λ r. ⌜ (r ≡ length (stepsOf most l step step)) × (r ≤ most) ⌝ }
 {
     let mut n = 0;
     let mut d = step;
-    while n < TOO_MANY {
+    while n < most {
         if d < l {
             n += 1;
             d = d + step;
@@ -87,8 +87,8 @@ fn write_span(
     out: &mut [f64],
     at: usize,
 ) -> usize
-    requires { ⌜ (v ≡ subOf b a) × (l ≡ lengthOf v) × (at + length (span step a b) ≤ mostPoints) ⌝ }
-    ensures { λ r. ⌜ pen (now (out .exit)) r ≡ inked putPoints (pen (now (out .entry)) at) (span step a b) ⌝ }
+    requires { ⌜ (v ≡ subOf b a) × (l ≡ lengthOf v) × (at + length (span tooMany step a b) ≤ mostPoints) ⌝ }
+    ensures { λ r. ⌜ pen (now (out .exit)) r ≡ inked putPoints (pen (now (out .entry)) at) (span tooMany step a b) ⌝ }
 {
     let o = write_steps(a, v, l, step, out, at);
     put_point(out, o, b);
@@ -106,8 +106,8 @@ fn write_spans(
     out: &mut [f64],
     at: usize,
 ) -> usize
-    requires { ⌜ at + length (spans step first (gather (pointAt (now points)) i (e - i))) ≤ mostPoints ⌝ }
-    ensures { λ r. ⌜ pen (now (out .exit)) r ≡ inked putPoints (pen (now (out .entry)) at) (spans step first (gather (pointAt (now (points .entry))) i (e - i))) ⌝ }
+    requires { ⌜ at + length (spans tooMany step first (gather (pointAt (now points)) i (e - i))) ≤ mostPoints ⌝ }
+    ensures { λ r. ⌜ pen (now (out .exit)) r ≡ inked putPoints (pen (now (out .entry)) at) (spans tooMany step first (gather (pointAt (now (points .entry))) i (e - i))) ⌝ }
 {
     let mut j = i;
     let mut o = at;
@@ -141,8 +141,8 @@ fn kept(a: usize, e: usize) -> usize
 
 // Writes a stroke of two points or more, the points from place a up to e.
 fn write_chopped(points: &[f64], a: usize, e: usize, step: f64, out: &mut [f64], at: usize) -> usize
-    requires { ⌜ (a + 2 ≤ e) × (at + length (chopped step (gather (pointAt (now points)) a (e - a))) ≤ mostPoints) ⌝ }
-    ensures { λ r. ⌜ pen (now (out .exit)) r ≡ inked putPoints (pen (now (out .entry)) at) (chopped step (gather (pointAt (now (points .entry))) a (e - a))) ⌝ }
+    requires { ⌜ (a + 2 ≤ e) × (at + length (chopped tooMany step (gather (pointAt (now points)) a (e - a))) ≤ mostPoints) ⌝ }
+    ensures { λ r. ⌜ pen (now (out .exit)) r ≡ inked putPoints (pen (now (out .entry)) at) (chopped tooMany step (gather (pointAt (now (points .entry))) a (e - a))) ⌝ }
 {
     let p = point_at(points, a);
     put_point(out, at, p);
@@ -159,9 +159,9 @@ fn write_stroke(
     out_starts: &mut [u32],
     p: Place,
 ) -> Place
-    requires { ⌜ (p .points + length (chopped step (gather (pointAt (now points)) a (e - a))) ≤ mostPoints) × (p .starts ≤ mostPoints) ⌝ }
+    requires { ⌜ (p .points + length (chopped tooMany step (gather (pointAt (now points)) a (e - a))) ≤ mostPoints) × (p .starts ≤ mostPoints) ⌝ }
     ensures { λ r. ⌜ out (now («out_points» .exit)) (now («out_starts» .exit)) r
-        ≡ push putPoints (out (now («out_points» .entry)) (now («out_starts» .entry)) p) (chopped step (gather (pointAt (now (points .entry))) a (e - a))) ⌝ }
+        ≡ push putPoints (out (now («out_points» .entry)) (now («out_starts» .entry)) p) (chopped tooMany step (gather (pointAt (now (points .entry))) a (e - a))) ⌝ }
 {
     if kept(a, e) == 0 {
         return p;
@@ -224,7 +224,7 @@ fn larger(a: f64, b: f64) -> f64
 
 // The square of the longest of the spans over the points from place i up to e: none of them takes more steps than one so long.
 fn longest(points: &[f64], i: usize, e: usize, first: Vector) -> f64
-    ensures { λ r. ⌜ ((step : Float) → length (spans step first (gather (pointAt (now (points .entry))) i (e - i))) ≤ (e - i) * (length (stepsOf tooMany (orNan (rootOf r)) step step) + 1)) ⌝ }
+    ensures { λ r. ⌜ ((step : Float) → length (spans tooMany step first (gather (pointAt (now (points .entry))) i (e - i))) ≤ (e - i) * (length (stepsOf tooMany (orNan (rootOf r)) step step) + 1)) ⌝ }
 {
     let mut most = 0.0;
     let mut p = first;
@@ -238,16 +238,17 @@ fn longest(points: &[f64], i: usize, e: usize, first: Vector) -> f64
     most
 }
 
-// A count with what the stroke from place a up to e adds at most: as if all its spans were as long as the longest. One root serves them all.
+// A count with what the stroke from place a up to e adds at most: as if all its spans were as long as the longest. One root serves them all,
+// and its steps are counted only up to the most that may follow.
 fn bound_stroke(points: &[f64], a: usize, e: usize, step: f64, so_far: usize) -> usize
     requires { ⌜ «so_far» ≤ tooMany ⌝ }
-    ensures { λ r. ⌜ (capped («so_far» + length (chopped step (gather (pointAt (now (points .entry))) a (e - a)))) ≤ r) × (r ≤ tooMany) ⌝ }
+    ensures { λ r. ⌜ (capped («so_far» + length (chopped tooMany step (gather (pointAt (now (points .entry))) a (e - a)))) ≤ r) × (r ≤ tooMany) ⌝ }
 {
     if kept(a, e) == 0 {
         return so_far;
     }
     let most = longest(points, a + 1, e, point_at(points, a));
-    let n = count_steps(root_or_nan(most), step) + 1;
+    let n = count_steps(root_or_nan(most), step, TOO_MANY - so_far) + 1;
     let k = e - (a + 1);
     if TOO_MANY / n < k {
         return TOO_MANY;
@@ -255,13 +256,16 @@ fn bound_stroke(points: &[f64], a: usize, e: usize, step: f64, so_far: usize) ->
     cap(so_far + 1 + k * n)
 }
 
-// How many points all strokes give at most.
+// How many points all strokes give at most. No stroke is looked at once there are too many.
 fn bound_strokes(points: &[f64], starts: &[u32], step: f64) -> usize
     ensures { λ r. ⌜ (capped (length (joined (choppedOf step (now (points .entry)) (now (starts .entry))))) ≤ r) × (r ≤ tooMany) ⌝ }
 {
     let mut n = 0;
     let mut j = 0;
     while j < starts.len() {
+        if MOST_POINTS < n {
+            return TOO_MANY;
+        }
         let a = starts[j] as usize;
         let e = end_of(starts, j, points.len() / 3);
         n = bound_stroke(points, a, e, step, n);
@@ -273,7 +277,7 @@ fn bound_strokes(points: &[f64], starts: &[u32], step: f64) -> usize
 // What the points from place i up to e add to a count. No span is looked at once there are too many.
 fn count_spans(points: &[f64], i: usize, e: usize, first: Vector, step: f64, so_far: usize) -> usize
     requires { ⌜ «so_far» ≤ tooMany + 1 ⌝ }
-    ensures { λ r. ⌜ r ≡ capped («so_far» + length (spans step first (gather (pointAt (now (points .entry))) i (e - i)))) ⌝ }
+    ensures { λ r. ⌜ r ≡ capped («so_far» + length (spans tooMany step first (gather (pointAt (now (points .entry))) i (e - i)))) ⌝ }
 {
     let mut j = i;
     let mut n = so_far;
@@ -283,7 +287,7 @@ fn count_spans(points: &[f64], i: usize, e: usize, first: Vector, step: f64, so_
             return TOO_MANY;
         }
         let q = point_at(points, j);
-        n = n + count_steps(q.sub(p).length(), step) + 1;
+        n = n + count_steps(q.sub(p).length(), step, TOO_MANY - n) + 1;
         p = q;
         j += 1;
     }
@@ -293,7 +297,7 @@ fn count_spans(points: &[f64], i: usize, e: usize, first: Vector, step: f64, so_
 // What the stroke from place a up to e adds to a count.
 fn count_stroke(points: &[f64], a: usize, e: usize, step: f64, so_far: usize) -> usize
     requires { ⌜ «so_far» ≤ tooMany ⌝ }
-    ensures { λ r. ⌜ r ≡ capped («so_far» + length (chopped step (gather (pointAt (now (points .entry))) a (e - a)))) ⌝ }
+    ensures { λ r. ⌜ r ≡ capped («so_far» + length (chopped tooMany step (gather (pointAt (now (points .entry))) a (e - a)))) ⌝ }
 {
     if kept(a, e) == 0 {
         return cap(so_far);

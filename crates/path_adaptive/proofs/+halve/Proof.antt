@@ -2,17 +2,16 @@
 use borrow.Author.Needs.{needs}
 use Rattle.path_adaptive.specs.declared.View.{View}
 use Rattle.path_adaptive.specs.declared.Shown.{Shown}
-use Rattle.path.proofs.Pushes.{ink-place}
-use Rattle.path.specs.Laid.{putPoints, pen, inked}
-use Rattle.path_adaptive.proofs.Walks.{Both, walk-ends, walk-stuck, ends-are, halves-are, half-both, both-ink, pen-are}
+use Rattle.path.specs.Laid.{pen}
+use Rattle.path_adaptive.proofs.Walks.{Both, walk-ends, walk-stuck, ends-are, halves-are, half-both, left-fits, right-fits, both-inks, inks-are, mark-are}
 use Rattle.path_adaptive.specs.Walk.{Walk, join, halved, walk}
-use Rattle.path_adaptive.specs.Plain.{viewAt}
+use Rattle.path_adaptive.specs.Plain.{viewAt, Fits, Inks}
 use lib.ListN.{length}
 use Prim.Native.Nat.{_+_, _-_}
 use native.Mathlib.Omega.{arith}
 use mathlib.Core.Bool.{true≢false}
 use mathlib.Core.Logic.{⊎-elim}
-use mathlib.Core.Path.{_≡_, sym, ap, _∙_}
+use mathlib.Core.Path.{_≡_, refl, sym, ap, _∙_}
 use Prim.Native.Nat.{ℕ, _<_}
 use borrow.Fn.Kinds.{In}
 use borrow.Fn.PlainCycle.{Measures, is, falls, and}
@@ -52,13 +51,16 @@ halve-returns : (t : ℕ) → halve-lts.Need-returns (claims t) (halve-at t) hal
 halve-returns t c =
     let s = c .before .before in
     let w = walk-stuck (view-of t s) (first-of t s) (last-of t s) (s .args .depth) (s .pre .1 .0) (c .if1 .taken) in
-    absurd (true≢false (sym (ap (λ (x : Walk). x .deep) w) ∙ s .pre .1 .1))
+    absurd (true≢false (sym (ap (λ (x : Walk). x .deep) w) ∙ s .pre .1 .1 .calm))
 
 halve-view-at-requires : (t : ℕ) → halve-lts.Need-view-at-requires (claims t) (halve-at t) halve.Post
 halve-view-at-requires t c κs = search needs
 
 halve-middle-requires : (t : ℕ) → halve-lts.Need-middle-requires (claims t) (halve-at t) halve.Post
 halve-middle-requires t c κs = search needs
+
+halve-add-k : (t : ℕ) → halve-lts.Need-add-k (claims t) (halve-at t) halve.Post
+halve-add-k t c = omega (arith, c .before .before .before .before .pre .1 .1 .few-halvings)
 
 halve-ends-requires : (t : ℕ) → halve-lts.Need-ends-requires (claims t) (halve-at t) halve.Post
 halve-ends-requires t c κs = search needs
@@ -78,39 +80,38 @@ halves t c =
 
 both : (t : ℕ) (c : halve-lts.After-ends (claims t) (halve-at t) halve.Post)
     → let s = c .before .before .before .before .before in Both 1 (left-of t c) (right-of t c) (walk (s .args .depth) (view-of t s) (first-of t s) (last-of t s))
-both t c = half-both (left-of t c) (right-of t c) _ (halves t c) (c .before .before .before .before .before .pre .1 .1)
+both t c = half-both (left-of t c) (right-of t c) _ (halves t c) (c .before .before .before .before .before .pre .1 .1 .calm)
 
 halve-add-point-requires : (t : ℕ) → halve-lts.Need-add-point-requires (claims t) (halve-at t) halve.Post
 halve-add-point-requires t c κs =
     let s = c .before .before .before .before .before .before .before in
     let l = walk-ends (view-of t s) (first-of t s) (c .before .before .before .middle .result) (s .args .depth - 1) (ends-are _ _ (c .before .before .before .before .view-at .ensures) (c .before .before .ends .ensures) (c .before .if2 .taken)) in
-    omega (arith, s .pre .1 .2, both t (c .before .before) .length-is, ap (λ (x : Walk). length (x .points)) l)
+    omega (arith, s .pre .1 .1 .few, both t (c .before .before) .length-is, ap (λ (x : Walk). length (x .points)) l)
 
 halve-sub-halve : (t : ℕ) → halve-lts.Need-sub-halve (claims t) (halve-at t) halve.Post
 halve-sub-halve t c = omega arith
 
 halve-halve-requires : (t : ℕ) → halve-lts.Need-halve-requires (claims t) (halve-at t) halve.Post
 halve-halve-requires t c κs =
-    let b = both t (c .before .before) in
-    (omega arith, (ends-are _ _ (c .before .before .before .before .view-at .ensures) (c .before .before .ends .ensures) (c .before .if2 .left), b .calm, omega (arith, c .before .before .before .before .before .before .before .pre .1 .2, b .length-is)))
+    (omega arith, (ends-are _ _ (c .before .before .before .before .view-at .ensures) (c .before .before .ends .ensures) (c .before .if2 .left), left-fits (both t (c .before .before)) (c .before .before .before .before .before .before .before .pre .1 .1) refl))
 
 -- the left half is written, whichever way it went
 left-inks : (t : ℕ) (c : halve-lts.Joined2 (claims t) (halve-at t) halve.Post)
-    → let s = c .before .before .before .before .before .before in pen (c .if2 .out) (c .if2 .l) ≡ inked putPoints (pen (s .args .out .now) (s .args .o)) (left-of t (c .before) .points)
+    → let s = c .before .before .before .before .before .before in Inks (left-of t (c .before)) (pen (s .args .out .now) (s .args .o)) (s .args .h + 1) (pen (c .if2 .out) (c .if2 .l .points)) (c .if2 .l .halvings)
 left-inks t c =
     let s = c .before .before .before .before .before .before in
     let l = walk-ends (view-of t s) (first-of t s) (c .before .before .middle .result) (s .args .depth - 1) in
     ⊎-elim
-    (λ w. pen-are (w .5) (w .6) (w .2 .ensures ∙ ap (λ (x : Walk). inked putPoints (pen (s .args .out .now) (s .args .o)) (x .points)) (sym (l (ends-are _ _ (c .before .before .before .view-at .ensures) (c .before .ends .ensures) (w .0 .taken))))))
-    (λ w. pen-are (w .5) (w .6) (w .2 .ensures))
+    (λ w. mark-are (w .5) (w .6) (inks-are (l (ends-are _ _ (c .before .before .before .view-at .ensures) (c .before .ends .ensures) (w .0 .taken))) (w .2 .ensures)))
+    (λ w. mark-are (w .5) (w .6) (w .2 .ensures))
     (c .if2 .came)
 
 left-length : (t : ℕ) (c : halve-lts.Joined2 (claims t) (halve-at t) halve.Post) → length (c .if2 .out) ≡ length (c .before .before .before .before .before .before .args .out .now)
 left-length t c = ⊎-elim (λ w. ap length (w .5) ∙ w .3 .given) (λ w. ap length (w .5) ∙ w .3 .given) (c .if2 .came)
 
--- where the right half goes
-left-place : (t : ℕ) (c : halve-lts.Joined2 (claims t) (halve-at t) halve.Post) → c .if2 .l ≡ c .before .before .before .before .before .before .args .o + length (left-of t (c .before) .points)
-left-place t c = let s = c .before .before .before .before .before .before in ink-place putPoints (pen (s .args .out .now) (s .args .o)) (left-of t (c .before) .points) (left-inks t c)
+-- the right half fits after it
+right-fit : (t : ℕ) (c : halve-lts.Joined2 (claims t) (halve-at t) halve.Post) → Fits (right-of t (c .before)) (c .if2 .l .points) (c .if2 .l .halvings)
+right-fit t c = right-fits (both t (c .before)) (c .before .before .before .before .before .before .pre .1 .1) refl _ _ (left-inks t c)
 
 halve-ends-requires-2 : (t : ℕ) → halve-lts.Need-ends-requires-2 (claims t) (halve-at t) halve.Post
 halve-ends-requires-2 t c κs = search needs
@@ -119,7 +120,7 @@ halve-add-point-requires-2 : (t : ℕ) → halve-lts.Need-add-point-requires-2 (
 halve-add-point-requires-2 t c κs =
     let s = c .before .before .before .before .before .before .before .before .before in
     let r = walk-ends (view-of t s) (c .before .before .before .before .before .middle .result) (last-of t s) (s .args .depth - 1) (ends-are _ _ (c .before .before .before .before .before .before .view-at .ensures) (c .before .before .ends2 .ensures) (c .before .if3 .taken)) in
-    omega (arith, s .pre .1 .2, both t (c .before .before .before .before) .length-is, left-place t (c .before .before .before), ap (λ (x : Walk). length (x .points)) r)
+    omega (arith, right-fit t (c .before .before .before) .few, ap (λ (x : Walk). length (x .points)) r)
 
 halve-same-length : (t : ℕ) → halve-lts.Need-same-length (claims t) (halve-at t) halve.Post
 halve-same-length t c = let z = left-length t (c .before .before .before .before .before .before) in search needs
@@ -127,25 +128,22 @@ halve-same-length t c = let z = left-length t (c .before .before .before .before
 halve-returns-2 : (t : ℕ) → halve-lts.Need-returns-2 (claims t) (halve-at t) halve.Post
 halve-returns-2 t c =
     let s = c .before .before .before .before .before .before .before .before .before .before .before .before in
-    let q = pen (c .before .before .before .before .before .before .if2 .out) (c .before .before .before .before .before .before .if2 .l) in
     let r = walk-ends (view-of t s) (c .before .before .before .before .before .before .before .before .middle .result) (last-of t s) (s .args .depth - 1) (ends-are _ _ (c .before .before .before .before .before .before .before .before .before .view-at .ensures) (c .before .before .before .before .before .ends2 .ensures) (c .before .before .before .before .if3 .taken)) in
-    both-ink (both t (c .before .before .before .before .before .before .before)) (pen (s .args .out .now) (s .args .o)) q _ (left-inks t (c .before .before .before .before .before .before)) (c .before .before .add-point2 .ensures ∙ ap (λ (x : Walk). inked putPoints q (x .points)) (sym r))
+    both-inks (s .args .h) (both t (c .before .before .before .before .before .before .before)) refl (left-inks t (c .before .before .before .before .before .before)) (inks-are r (c .before .before .add-point2 .ensures))
 
 halve-sub-halve-2 : (t : ℕ) → halve-lts.Need-sub-halve-2 (claims t) (halve-at t) halve.Post
 halve-sub-halve-2 t c = omega arith
 
 halve-halve-requires-2 : (t : ℕ) → halve-lts.Need-halve-requires-2 (claims t) (halve-at t) halve.Post
 halve-halve-requires-2 t c κs =
-    let b = both t (c .before .before .before .before) in
-    (omega arith, (ends-are _ _ (c .before .before .before .before .before .before .view-at .ensures) (c .before .before .ends2 .ensures) (c .before .if3 .left), b .calm-after, omega (arith, c .before .before .before .before .before .before .before .before .before .pre .1 .2, b .length-is, left-place t (c .before .before .before))))
+    (omega arith, (ends-are _ _ (c .before .before .before .before .before .before .view-at .ensures) (c .before .before .ends2 .ensures) (c .before .if3 .left), right-fit t (c .before .before .before)))
 
 halve-same-length-2 : (t : ℕ) → halve-lts.Need-same-length-2 (claims t) (halve-at t) halve.Post
 halve-same-length-2 t c = let z = left-length t (c .before .before .before .before .before .before) in search needs
 
 halve-returns-3 : (t : ℕ) → halve-lts.Need-returns-3 (claims t) (halve-at t) halve.Post
 halve-returns-3 t c =
-    let s = c .before .before .before .before .before .before .before .before .before .before .before .before in
-    both-ink (both t (c .before .before .before .before .before .before .before)) (pen (s .args .out .now) (s .args .o)) _ _ (left-inks t (c .before .before .before .before .before .before)) (c .before .before .halve2 .ensures)
+    both-inks (c .before .before .before .before .before .before .before .before .before .before .before .before .args .h) (both t (c .before .before .before .before .before .before .before)) refl (left-inks t (c .before .before .before .before .before .before)) (c .before .before .halve2 .ensures)
 
 pub +halve-spec : {M : Type 1} → statement M
 +halve-spec = close μ-halve λ t. halve-lts.spec (claims t)
@@ -154,6 +152,7 @@ pub +halve-spec : {M : Type 1} → statement M
     (halve-returns t)
     (halve-view-at-requires t)
     (halve-middle-requires t)
+    (halve-add-k t)
     (halve-ends-requires t)
     (halve-add-point-requires t)
     (halve-sub-halve t)

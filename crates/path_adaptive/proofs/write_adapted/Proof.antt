@@ -1,8 +1,6 @@
 -- `write_adapted` meets its contract.
-use Rattle.path.proofs.Pushes.{ink-place}
-use Rattle.path.specs.Laid.{putPoints, pen}
 use Rattle.path.specs.Strokes.{pointAt}
-use Rattle.path_adaptive.proofs.Walks.{shown-are, join-both, both-ink, stroke-some}
+use Rattle.path_adaptive.proofs.Walks.{shown-are, join-both, right-fits, both-inks, stroke-some}
 use Rattle.path_adaptive.specs.Walk.{one}
 use Rattle.path_adaptive.specs.Plain.{viewAt}
 use native.Mathlib.Omega.{arith}
@@ -18,7 +16,7 @@ add-point-requires : tie.Need-add-point-requires
 add-point-requires c κs =
     let a = c .before .before .before .before .args in
     let w = stroke-some (viewAt (a .lens .now)) (pointAt (a .points .now)) (a .a) (a .e) _ _ (c .before .before .before .before .pre .0) refl refl in
-    omega (arith, c .before .before .before .before .pre .2, join-both (one _) _ _ w (c .before .before .before .before .pre .1) .length-is)
+    omega (arith, c .before .before .before .before .pre .1 .few, join-both (one _) _ _ w (c .before .before .before .before .pre .1 .calm) .length-is)
 
 add-write-spans : tie.Need-add-write-spans
 add-write-spans c = search needs
@@ -34,8 +32,7 @@ write-spans-requires c κs =
     let a = c .before .before .before .before .before .before .before .before .before .before .args in
     let v = c .before .before .before .before .before .before .before .point-at .result in
     let w = stroke-some (viewAt (a .lens .now)) (pointAt (a .points .now)) (a .a) (a .e) v _ (c .before .before .before .before .before .before .before .before .before .before .pre .0) (c .before .before .before .before .before .before .before .point-at .ensures) (shown-are (c .before .before .view-at .ensures) refl (c .before .show .ensures)) in
-    let b = join-both (one v) _ _ w (c .before .before .before .before .before .before .before .before .before .before .pre .1) in
-    (b .calm-after, omega (arith, c .before .before .before .before .before .before .before .before .before .before .pre .2, b .length-is, ink-place putPoints (pen (a .out .now) (a .o)) (one v .points) (c .before .before .before .before .before .add-point .ensures)))
+    right-fits (join-both (one v) _ _ w (c .before .before .before .before .before .before .before .before .before .before .pre .1 .calm)) (c .before .before .before .before .before .before .before .before .before .before .pre .1) (omega arith) _ _ (c .before .before .before .before .before .add-point .ensures)
 
 same-length : tie.Need-same-length
 same-length c = search needs
@@ -45,7 +42,7 @@ returns c =
     let a = c .before .before .before .before .before .before .before .before .before .before .before .before .before .args in
     let v = c .before .before .before .before .before .before .before .before .before .before .point-at .result in
     let w = stroke-some (viewAt (a .lens .now)) (pointAt (a .points .now)) (a .a) (a .e) v _ (c .before .before .before .before .before .before .before .before .before .before .before .before .before .pre .0) (c .before .before .before .before .before .before .before .before .before .before .point-at .ensures) (shown-are (c .before .before .before .before .before .view-at .ensures) refl (c .before .before .before .before .show .ensures)) in
-    both-ink (join-both (one v) _ _ w (c .before .before .before .before .before .before .before .before .before .before .before .before .before .pre .1)) (pen (a .out .now) (a .o)) _ _ (c .before .before .before .before .before .before .before .before .add-point .ensures) (c .before .before .write-spans .ensures)
+    both-inks (a .h) (join-both (one v) _ _ w (c .before .before .before .before .before .before .before .before .before .before .before .before .before .pre .1 .calm)) (omega arith) (c .before .before .before .before .before .before .before .before .add-point .ensures) (c .before .before .write-spans .ensures)
 
 pub write-adapted-spec : {M : Type 1} → statement M
 write-adapted-spec =

@@ -1,10 +1,9 @@
 -- `write_span` meets its contract.
-use Rattle.path.specs.Laid.{putPoints, pen, inked}
-use Rattle.path_adaptive.proofs.Walks.{walk-ends, ends-are}
+use Rattle.path_adaptive.proofs.Walks.{walk-ends, ends-are, inks-are}
 use Rattle.path_adaptive.specs.Walk.{Walk}
 use lib.ListN.{length}
 use native.Mathlib.Omega.{arith}
-use mathlib.Core.Path.{sym, ap, _∙_}
+use mathlib.Core.Path.{ap}
 use borrow.Author.Needs.{needs}
 use Rattle.path_adaptive.proofs.write_span.Statement.{statement}
 use Rattle.path_adaptive.proofs.write_span.Tie as tie
@@ -18,19 +17,17 @@ ends-requires c κs = search needs
 add-point-requires : tie.Need-add-point-requires
 add-point-requires c κs =
     let w = walk-ends _ _ _ 64 (ends-are _ _ (c .before .before .before .view-at .ensures) (c .before .before .ends .ensures) (c .before .if1 .taken)) in
-    omega (arith, c .before .before .before .before .before .pre .1, ap (λ (x : Walk). length (x .points)) w)
+    omega (arith, c .before .before .before .before .before .pre .few, ap (λ (x : Walk). length (x .points)) w)
 
 same-length : tie.Need-same-length
 same-length c = search needs
 
 returns : tie.Need-returns
 returns c =
-    let a = c .before .before .before .before .before .before .before .before .args in
-    let w = walk-ends _ _ _ 64 (ends-are _ _ (c .before .before .before .before .before .before .view-at .ensures) (c .before .before .before .before .before .ends .ensures) (c .before .before .before .before .if1 .taken)) in
-    c .before .before .add-point .ensures ∙ ap (λ (x : Walk). inked putPoints (pen (a .out .now) (a .o)) (x .points)) (sym w)
+    inks-are (walk-ends _ _ _ 64 (ends-are _ _ (c .before .before .before .before .before .before .view-at .ensures) (c .before .before .before .before .before .ends .ensures) (c .before .before .before .before .if1 .taken))) (c .before .before .add-point .ensures)
 
 halve-requires : tie.Need-halve-requires
-halve-requires c κs = (ends-are _ _ (c .before .before .before .view-at .ensures) (c .before .before .ends .ensures) (c .before .if1 .left), c .before .before .before .before .before .pre .0, c .before .before .before .before .before .pre .1)
+halve-requires c κs = (ends-are _ _ (c .before .before .before .view-at .ensures) (c .before .before .ends .ensures) (c .before .if1 .left), c .before .before .before .before .before .pre)
 
 same-length-2 : tie.Need-same-length-2
 same-length-2 c = search needs

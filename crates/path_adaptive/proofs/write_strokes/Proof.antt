@@ -2,26 +2,27 @@
 use borrow.Author.Needs.{needs}
 use Rattle.path.proofs.Pushes.{push-turn, push-end, push-room, push-starts}
 use Rattle.path.specs.Laid.{putPoints, out, pushAll}
-use Rattle.path_adaptive.proofs.Tallies.{walks-more, walks-none, more-points, more-calm}
-use Rattle.path_adaptive.specs.Walk.{walksOf, adapted, Calm}
+use Rattle.path_adaptive.proofs.Tallies.{walks-more, walks-none, more-points, more-calm, more-halvings}
+use Rattle.path_adaptive.specs.Walk.{walksOf, adapted, halvingsOf, Calm}
 use Rattle.path_adaptive.specs.Plain.{viewAt}
 use lib.ListN.{length, drop}
-use Prim.Native.Nat.{_-_, _≤_, zero-le}
+use Prim.Native.Nat.{_+_, _-_, _≤_, zero-le}
 use native.Mathlib.Omega.{arith}
 use mathlib.Core.Path.{_≡_, refl, sym, ap, _∙_}
 use Rattle.path_adaptive.proofs.write_strokes.Statement.{statement}
 use Rattle.path_adaptive.proofs.write_strokes.Tie as tie
 
 abbrev Inv-loop : tie.InvT-loop
-Inv-loop lens points starts out-points₀ out-starts₀ w₀ i₀ out-points out-starts w i = (i ≤ length starts) × (w .starts ≤ i) × (length out-points ≡ length out-points₀) × (length out-starts ≡ length out-starts₀)
-    × (pushAll putPoints (out out-points out-starts w) (adapted (walksOf (viewAt lens) points (drop i starts))) ≡ pushAll putPoints (out out-points₀ out-starts₀ w₀) (adapted (walksOf (viewAt lens) points starts)))
+Inv-loop lens points starts out-points₀ out-starts₀ w₀ i₀ out-points out-starts w i = (i ≤ length starts) × (w .place .starts ≤ i) × (length out-points ≡ length out-points₀) × (length out-starts ≡ length out-starts₀)
+    × (pushAll putPoints (out out-points out-starts (w .place)) (adapted (walksOf (viewAt lens) points (drop i starts))) ≡ pushAll putPoints (out out-points₀ out-starts₀ (w₀ .place)) (adapted (walksOf (viewAt lens) points starts)))
     × Calm (walksOf (viewAt lens) points (drop i starts))
+    × (w .halvings + halvingsOf (walksOf (viewAt lens) points (drop i starts)) ≡ halvingsOf (walksOf (viewAt lens) points starts))
 
 abbrev μ-loop : tie.MeasureT-loop
 μ-loop lens points starts out-points₀ out-starts₀ w₀ i₀ out-points out-starts w i = length starts - i
 
 loop-holds : tie.Need-loop-holds Inv-loop μ-loop
-loop-holds c = (zero-le, zero-le, refl, refl, refl, c .before .before .before .before .pre .0)
+loop-holds c = (zero-le, zero-le, refl, refl, refl, c .before .before .before .before .pre .0, omega arith)
 
 mul-a : tie.Need-mul-a Inv-loop μ-loop
 mul-a c = search needs
@@ -40,9 +41,10 @@ write-stroke-requires c κs =
     let l = c .before .before .before .before .before in
     let a = l .before .before .before .before .before .args in
     let m = walks-more (viewAt (a .lens .now)) (a .points .now) (a .starts .now) (l .loop .i) _ (search needs) (c .before .before .end-of .ensures) in
-    let o = out (l .loop .out-points) (l .loop .out-starts) (l .loop .w) in
+    let o = out (l .loop .out-points) (l .loop .out-starts) (l .loop .w .place) in
     let r = push-room putPoints o _ _ _ _ (ap (pushAll putPoints o) (sym (more-points m)) ∙ l .loop .inv .4) refl in
-    (more-calm m (l .loop .inv .5) .0, omega (arith, c .before .before .before .before .before .before .before .before .before .before .pre .1), omega (arith, c .before .before .before .before .before .before .before .before .before .before .pre .2))
+    let pre = c .before .before .before .before .before .before .before .before .before .before .pre in
+    (record { calm = more-calm m (l .loop .inv .5) .0; few = omega (arith, pre .1); few-halvings = omega (arith, pre .3, more-halvings m, l .loop .inv .6) }, omega (arith, pre .2))
 
 add-i : tie.Need-add-i Inv-loop μ-loop
 add-i c = omega arith
@@ -57,11 +59,12 @@ loop-again c =
     let a = l .before .before .before .before .before .args in
     let m = walks-more (viewAt (a .lens .now)) (a .points .now) (a .starts .now) (l .loop .i) _ (search needs) (c .before .before .before .before .before .before .before .end-of .ensures) in (
       omega arith,
-      omega (arith, push-starts putPoints (out (l .loop .out-points) (l .loop .out-starts) (l .loop .w)) _ _ (w .write-stroke .ensures)),
+      omega (arith, push-starts putPoints (out (l .loop .out-points) (l .loop .out-starts) (l .loop .w .place)) _ _ (w .write-stroke .ensures .0)),
       cc,
       cc,
-      push-turn putPoints _ _ (more-points m) (w .write-stroke .ensures) ∙ l .loop .inv .4,
+      push-turn putPoints _ _ (more-points m) (w .write-stroke .ensures .0) ∙ l .loop .inv .4,
       more-calm m (l .loop .inv .5) .1,
+      omega (arith, w .write-stroke .ensures .1, more-halvings m, l .loop .inv .6),
     )
 
 same-length : tie.Need-same-length Inv-loop μ-loop
@@ -71,11 +74,12 @@ same-length-2 : tie.Need-same-length-2 Inv-loop μ-loop
 same-length-2 c = search needs
 
 returns : tie.Need-returns Inv-loop μ-loop
+unfolding halvingsOf
 returns c =
     let l = c .before in
     let a = l .before .before .before .before .before .args in
     let z = walks-none (viewAt (a .lens .now)) (a .points .now) (a .starts .now) (l .loop .i) (search needs) in
-    sym (push-end putPoints _ (ap adapted z)) ∙ l .loop .inv .4
+    (sym (push-end putPoints _ (ap adapted z)) ∙ l .loop .inv .4, omega (arith, ap halvingsOf z, l .loop .inv .6))
 
 pub write-strokes-spec : {M : Type 1} → statement M
 write-strokes-spec =

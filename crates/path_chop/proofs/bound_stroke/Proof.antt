@@ -10,7 +10,7 @@ use Rattle.path.specs.Strokes.{pointAt, gather}
 use Rattle.path_chop.specs.Chop.{tooMany, stepsOf, chopped, capped}
 use Rattle.path_chop.proofs.Counts.{kept-zero, kept-one, cap-under, cap-most}
 use Rattle.path_chop.proofs.Chops.{stroke-short, chopped-length}
-use Rattle.path_chop.proofs.Bounds.{cap-mono, product, stroke-bound}
+use Rattle.path_chop.proofs.Bounds.{product, stroke-bound}
 use Rattle.path_chop.proofs.bound_stroke.Statement.{statement}
 use Rattle.path_chop.proofs.bound_stroke.Tie as tie
 
@@ -21,7 +21,7 @@ returns : tie.Need-returns
 returns c =
     let a = c .before .before .before .args in
     let z = stroke-short (a .step) (pointAt (a .points .now)) (a .a) (a .e) (kept-zero (a .e - a .a) (sym (c .before .kept .ensures) ∙ c .if1 .taken)) in
-    let k : a .so-far + length (chopped (a .step) (gather (pointAt (a .points .now)) (a .a) (a .e - a .a))) ≡ a .so-far = omega arith in
+    let k : a .so-far + length (chopped tooMany (a .step) (gather (pointAt (a .points .now)) (a .a) (a .e - a .a))) ≡ a .so-far = omega arith in
     (le-of-eq (ap capped k ∙ cap-under (a .so-far) (c .before .before .before .pre)), c .before .before .before .pre)
 
 add-longest : tie.Need-add-longest
@@ -35,6 +35,9 @@ longest-requires c κs = search needs
 
 root-or-nan-requires : tie.Need-root-or-nan-requires
 root-or-nan-requires c κs = search needs
+
+sub-count-steps : tie.Need-sub-count-steps
+sub-count-steps c = search needs
 
 count-steps-requires : tie.Need-count-steps-requires
 count-steps-requires c κs = search needs
@@ -68,11 +71,13 @@ cap-requires c κs = search needs
 
 returns-3 : tie.Need-returns-3
 returns-3 c =
-    let a = c .before .before .before .before .before .before .before .before .before .args in
-    let l = chopped-length (a .step) (pointAt (a .points .now)) (a .a) (a .e) (omega (arith, kept-one ((c .before .before .before .before .before .before .before .before .before .args .e) - (c .before .before .before .before .before .before .before .before .before .args .a)) (λ z. c .before .before .before .before .before .before .if1 .left (c .before .before .before .before .before .before .before .kept .ensures ∙ z)))) _ (c .before .before .before .before .before .point-at .ensures) in
+    let s = c .before .before .before .before .before .before .before .before .before in
+    let a = s .args in
+    let two = kept-one (a .e - a .a) (λ z. c .before .before .before .before .before .before .if1 .left (c .before .before .before .before .before .before .before .kept .ensures ∙ z)) in
+    let l = chopped-length (a .step) (pointAt (a .points .now)) (a .a) (a .e) (omega arith) _ (c .before .before .before .before .before .point-at .ensures) in
     let m = c .before .before .before .before .longest .ensures (a .step) in
-    let n = c .before .before .count-steps .ensures .0 ∙ ap (λ (z : Float). length (stepsOf tooMany z (a .step) (a .step))) (c .before .before .before .root-or-nan .ensures) in
-    rw (c .cap .ensures) (cap-mono _ _ (stroke-bound (a .so-far) _ _ _ _ _ l m n), cap-most _)
+    let n = c .before .before .count-steps .ensures .0 ∙ ap (λ (z : Float). length (stepsOf (tooMany - a .so-far) z (a .step) (a .step))) (c .before .before .before .root-or-nan .ensures) in
+    rw (c .cap .ensures) (stroke-bound (a .so-far) _ _ _ _ _ (a .step) (s .pre) (omega arith) l m n, cap-most _)
 
 pub bound-stroke-spec : {M : Type 1} → statement M
 bound-stroke-spec =
@@ -84,6 +89,7 @@ bound-stroke-spec =
     point-at-requires
     longest-requires
     root-or-nan-requires
+    sub-count-steps
     count-steps-requires
     add-n
     add-k

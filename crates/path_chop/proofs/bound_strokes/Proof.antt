@@ -10,7 +10,7 @@ use Rattle.vector.specs.declared.Vector.{Vector}
 use Rattle.path.specs.Strokes.{pointAt}
 use Rattle.path.specs.Laid.{joined}
 use Rattle.path_chop.specs.Chop.{tooMany, choppedOf, capped}
-use Rattle.path_chop.proofs.Counts.{joined-count, cap-under}
+use Rattle.path_chop.proofs.Counts.{joined-count, cap-under, cap-most}
 use Rattle.path_chop.proofs.Chops.{chopped-more, chopped-none}
 use Rattle.path_chop.proofs.Bounds.{bound-turn}
 use Rattle.path_chop.proofs.bound_strokes.Statement.{statement}
@@ -26,6 +26,9 @@ abbrev μ-loop : tie.MeasureT-loop
 loop-holds : tie.Need-loop-holds Inv-loop μ-loop
 loop-holds c = (zero-le, zero-le, le-of-eq (ap capped (omega arith)))
 
+returns : tie.Need-returns Inv-loop μ-loop
+returns c = (cap-most _, omega arith)
+
 mul-a : tie.Need-mul-a Inv-loop μ-loop
 mul-a c = search needs
 
@@ -33,7 +36,7 @@ shared-slice-read-a : tie.Need-shared-slice-read-a Inv-loop μ-loop
 shared-slice-read-a c = search needs
 
 cast-a : tie.Need-cast-a Inv-loop μ-loop
-cast-a c = omega (arith, c .shared-slice-known3 .given (c .before .before .loop .j))
+cast-a c = omega (arith, c .shared-slice-known3 .given (c .before .before .before .loop .j))
 
 end-of-requires : tie.Need-end-of-requires Inv-loop μ-loop
 end-of-requires c κs = search needs
@@ -49,16 +52,16 @@ loop-less c = omega arith
 
 loop-again : tie.Need-loop-again Inv-loop μ-loop
 loop-again c =
-    let l = c .before .before .before .before in
+    let l = c .before .before .before .before .before in
     let a = l .before .before .before .args in
     let e = c .before .end-of in
     let m = chopped-more (a .step) (a .points .now) (a .starts .now) (l .loop .j) (e .result) (search needs) (e .ensures) in
     let j = joined-count (a .step) (pointAt (a .points .now)) (getD (a .starts .now) (l .loop .j) 0) (e .result) m in
     (omega arith, c .bound-stroke .ensures .1, bound-turn (l .loop .n) _ _ _ _ _ (c .bound-stroke .ensures .0) j (l .loop .inv .2))
 
-returns : tie.Need-returns Inv-loop μ-loop
+returns-2 : tie.Need-returns-2 Inv-loop μ-loop
 unfolding joined
-returns c =
+returns-2 c =
     let l = c .before in
     let a = l .before .before .before .args in
     let z = ap (λ (x : List (List Vector)). length (joined x)) (chopped-none (a .step) (a .points .now) (a .starts .now) (l .loop .j) (search needs)) in
@@ -71,6 +74,7 @@ bound-strokes-spec =
     Inv-loop
     μ-loop
     loop-holds
+    returns
     mul-a
     shared-slice-read-a
     cast-a
@@ -79,4 +83,4 @@ bound-strokes-spec =
     add-j
     loop-less
     loop-again
-    returns)
+    returns-2)

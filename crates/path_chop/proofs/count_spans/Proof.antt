@@ -1,18 +1,18 @@
 -- `count_spans` meets its contract.
 use borrow.Author.Needs.{needs}
-use Rattle.path_chop.proofs.Counts.{spans-count, cap-over}
+use Rattle.path_chop.proofs.Counts.{count-within, spans-count, cap-over}
 use Rattle.path_chop.proofs.Chops.{spans-none}
 use Rattle.path.specs.Strokes.{pointAt, gather}
 use Rattle.path_chop.specs.Chop.{tooMany, spans, capped}
 use lib.ListN.{length}
-use Prim.Native.Nat.{_+_, _-_, _≤_}
+use Prim.Native.Nat.{ℕ, _+_, _-_, _≤_}
 use native.Mathlib.Omega.{arith}
 use mathlib.Core.Path.{_≡_, refl, sym, ap, _∙_}
 use Rattle.path_chop.proofs.count_spans.Statement.{statement}
 use Rattle.path_chop.proofs.count_spans.Tie as tie
 
 abbrev Inv-loop : tie.InvT-loop
-Inv-loop points i e step so-far j₀ n₀ p₀ j n p = (n ≤ tooMany + tooMany) × (capped (n + length (spans step p (gather (pointAt points) j (e - j)))) ≡ capped (so-far + length (spans step p₀ (gather (pointAt points) i (e - i)))))
+Inv-loop points i e step so-far j₀ n₀ p₀ j n p = (n ≤ tooMany + 1) × (capped (n + length (spans tooMany step p (gather (pointAt points) j (e - j)))) ≡ capped (so-far + length (spans tooMany step p₀ (gather (pointAt points) i (e - i)))))
 
 abbrev μ-loop : tie.MeasureT-loop
 μ-loop points i e step so-far j₀ n₀ p₀ j n p = e - j
@@ -34,6 +34,9 @@ sub-requires c κs = search needs
 length-requires : tie.Need-length-requires Inv-loop μ-loop
 length-requires c κs = search needs
 
+sub-count-steps : tie.Need-sub-count-steps Inv-loop μ-loop
+sub-count-steps c = omega arith
+
 count-steps-requires : tie.Need-count-steps-requires Inv-loop μ-loop
 count-steps-requires c κs = search needs
 
@@ -53,8 +56,11 @@ loop-again : tie.Need-loop-again Inv-loop μ-loop
 loop-again c =
     let l = c .before .before .before .before .before .before in
     let a = l .before .before .args in
-    let k = spans-count (a .step) (pointAt (a .points .now)) (l .loop .j) (a .e) (l .loop .p) (search needs) _ (c .before .before .before .point-at .ensures) _ (c .before .before .sub .ensures) _ (c .before .length .ensures) in
-    (omega arith, ap capped (omega arith) ∙ l .loop .inv .1)
+    let rest = length (spans tooMany (a .step) (c .before .before .before .point-at .result) (gather (pointAt (a .points .now)) (l .loop .j + 1) (a .e - (l .loop .j + 1)))) in
+    let k = spans-count (a .step) (pointAt (a .points .now)) (l .loop .j) (a .e) (l .loop .p) (search needs) _ (c .before .before .before .point-at .ensures) _ (c .before .before .sub .ensures) _ (c .before .length .ensures) in (
+      omega arith,
+      ap (λ (x : ℕ). capped (l .loop .n + x + 1 + rest)) (c .count-steps .ensures .0) ∙ count-within (l .loop .n) rest _ (a .step) (omega arith) ∙ ap capped (omega arith) ∙ l .loop .inv .1,
+    )
 
 cap-requires : tie.Need-cap-requires Inv-loop μ-loop
 cap-requires c κs = search needs
@@ -77,6 +83,7 @@ count-spans-spec =
     point-at-requires
     sub-requires
     length-requires
+    sub-count-steps
     count-steps-requires
     add-n
     add-n-2

@@ -6,7 +6,7 @@ use Prim.Native.Nat.{_+_, _-_, _*_, _≤_}
 use lib.ListN.{length}
 use lib.Ieee.{Float}
 use Rattle.path.specs.Strokes.{pointAt, gather}
-use Rattle.path_chop.specs.Chop.{spans}
+use Rattle.path_chop.specs.Chop.{tooMany, spans}
 use Rattle.path_chop.proofs.Bounds.{reach, HasRoot, larger-reaches, zero-root, longest-start, longest-turn, longest-end, squared-fits}
 use Rattle.path_chop.proofs.longest.Statement.{statement}
 use Rattle.path_chop.proofs.longest.Tie as tie
@@ -14,7 +14,7 @@ use Rattle.path_chop.proofs.longest.Tie as tie
 abbrev Inv-loop : tie.InvT-loop
 Inv-loop points i e most₀ p₀ j₀ most p j =
     (i ≤ j) × (j - i ≤ e - i) × HasRoot most
-    × ((step : Float) → length (spans step p₀ (gather (pointAt points) i (e - i))) ≤ (j - i) * (reach most step + 1) + length (spans step p (gather (pointAt points) j (e - j))))
+    × ((step : Float) → length (spans tooMany step p₀ (gather (pointAt points) i (e - i))) ≤ (j - i) * (reach most step + 1) + length (spans tooMany step p (gather (pointAt points) j (e - j))))
 
 abbrev μ-loop : tie.MeasureT-loop
 μ-loop points i e most₀ p₀ j₀ most p j = e - j

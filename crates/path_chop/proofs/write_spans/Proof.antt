@@ -6,7 +6,7 @@ use Rattle.vector.specs.Vectors.{subOf}
 use Rattle.vector.specs.Lengths.{lengthOf}
 use Rattle.path.specs.Strokes.{pointAt, gather}
 use Rattle.path.specs.Laid.{putPoints, pen, inked, out}
-use Rattle.path_chop.specs.Chop.{spans}
+use Rattle.path_chop.specs.Chop.{tooMany, spans}
 use lib.ListN.{length}
 use Prim.Native.Nat.{_-_}
 use native.Mathlib.Omega.{arith}
@@ -16,7 +16,7 @@ use Rattle.path_chop.proofs.write_spans.Tie as tie
 
 abbrev Inv-loop : tie.InvT-loop
 Inv-loop points i e step out₀ at j₀ o₀ p₀ v₀ l₀ out j o p v l =
-    (length out ≡ length out₀) × (inked putPoints (pen out o) (spans step p (gather (pointAt points) j (e - j))) ≡ inked putPoints (pen out₀ at) (spans step p₀ (gather (pointAt points) i (e - i))))
+    (length out ≡ length out₀) × (inked putPoints (pen out o) (spans tooMany step p (gather (pointAt points) j (e - j))) ≡ inked putPoints (pen out₀ at) (spans tooMany step p₀ (gather (pointAt points) i (e - i))))
     × (v ≡ subOf (pointAt points j) p) × (l ≡ lengthOf v)
 
 abbrev μ-loop : tie.MeasureT-loop

@@ -32,6 +32,15 @@ fn main() {
     for call in calls::WORST.iter().filter(|call| call.name.starts_with(&word)) {
         println!("{}", compare::bench::time(call, RUNS).line());
     }
+    println!(
+        "\nCuts at the limits, `chop` on lent buffers and the safe function, which brings its own and grows them. The"
+    );
+    println!("original has no limit: it is timed where the cut fits.\n");
+    println!("| chop | lent, ms | safe, ms | original, ms |");
+    println!("|---|---|---|---|");
+    for cut in compare::cuts::CUTS.iter().filter(|_| "chop".starts_with(&word)) {
+        println!("{}", calls::cut(cut, RUNS));
+    }
     println!("\n## Sheets\n");
     println!("The original has none. The drawing of the torus in triangles is written and read; growth as above.\n");
     println!("| call | bytes | port, ms | MB a second | growth |");
@@ -47,6 +56,7 @@ const RUNS: usize = 25;
 #[cfg(original)]
 mod calls {
     use compare::bench::{Call, Rated, best};
+    use compare::cuts::Cut;
     use compare::torus::Mesh;
     use original::eps_1e9::{
         matrix::Matrix, mesh, mesh::MeshTexture, path::Paths, plane::Plane, shape::RenderArgs, shape::Shape,
@@ -341,6 +351,30 @@ mod calls {
         best(runs, || {
             black_box(paths.chop(step));
         })
+    }
+
+    /// A line of the table of cuts.
+    pub fn cut(cut: &Cut, runs: usize) -> String {
+        let strokes = cut.strokes();
+        let (points, starts) = (strokes.points().as_flattened(), strokes.starts());
+        let (mut out_points, mut out_starts) = (vec![0.0; 3 * cut.room], starts.to_vec());
+        let mut fits = false;
+        let lent = best(runs, || {
+            fits = lent::chop(points, starts, cut.step, &mut out_points, &mut out_starts).is_ok();
+            black_box((&mut out_points, &mut out_starts));
+        });
+        let safe = best(runs, || {
+            black_box(ramikohy::chop(&strokes, cut.step)).ok();
+        });
+        let mut paths = Paths::new();
+        strokes.iter().for_each(|s| paths.new_path().extend(s.iter().map(|&[x, y, z]| Vector::new(x, y, z))));
+        let original = fits.then(|| {
+            best(runs, || {
+                black_box(paths.chop(cut.step));
+            })
+        });
+        let theirs = original.map_or("-".into(), |seconds| format!("{:.2}", seconds * 1e3));
+        format!("| {} | {:.2} | {:.2} | {theirs} |", cut.name, lent * 1e3, safe * 1e3)
     }
 
     /// Every sixteenth vertex, in strokes of 64 points, and a step that cuts a span into some twenty.
