@@ -10,7 +10,7 @@ use lib.Dec.{eqb}
 use lib.Ieee.{Float}
 use borrow.Author.Tests.{eqb-true, eqb-false}
 use Rattle.mesh_weld.specs.declared.Cube.{Cube}
-use Rattle.mesh_weld.specs.Table.{key, Counted, bucketOf, bucketAt, Least, InBucket, Beside, InColumn, InLayer, About}
+use Rattle.mesh_weld.specs.Table.{key, cube, cubeOf, coarseOf, coarseAt, Least, InCoarse, Beside, InColumn, InLayer, About}
 
 -- those of s whose coarse cell is below n
 pub record Passed (s : ℕ → Type 0) (w : ℕ → ℕ) (n i : ℕ) : Type 0 where
@@ -51,9 +51,9 @@ module _ (vs : List Float) (c : Cube) where
   abbrev pub coarse-z : ℕ → ℕ
   coarse-z i = key (pointAt vs i .z) / 4
 
-  pub in-bucket : (m x y z b : ℕ) → b ≡ bucketOf x y z m → (i : ℕ) → InColumn vs c x y i → key (pointAt vs i .z) / 4 ≡ z → InBucket vs m b i
-  unfolding bucketAt
-  in-bucket m x y z b e i h g = record { is = rw (h .x, h .y, g) (sym e) }
+  pub in-coarse : (x y z i : ℕ) → InColumn vs c x y i → key (pointAt vs i .z) / 4 ≡ z → InCoarse vs (cube x y z) i
+  unfolding coarseAt coarseOf cubeOf
+  in-coarse x y z i h g = record { is = rw (h .x, h .y, g) }
 
   pub in-column : (x y i : ℕ) → InLayer vs c x i → key (pointAt vs i .y) / 4 ≡ y → InColumn vs c x y i
   in-column x y i h e = record { x = h .x; y = e; z = h .z }

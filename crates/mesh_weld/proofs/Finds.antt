@@ -13,8 +13,12 @@ use Rattle.mesh_weld.specs.declared.Found.{Found}
 use Rattle.mesh_weld.specs.declared.Found.the-variants.{At, Nothing}
 use Rattle.mesh_weld.specs.Weld.{cell, same, inCell, near, orElse, oldest, findIn, three, find}
 use Rattle.mesh_weld.specs.Table.{count, key}
-use Rattle.mesh_weld.proofs.Chains.{oldest-cong}
 use Rattle.mesh_weld.proofs.Cells.{cell-le, count-suc, count-pred, within-pred, within-suc, same-key}
+
+pub oldest-cong : (p q : ℕ → Bool) (k : ℕ) → ((v : ℕ) → v < k → p v ≡ q v) → oldest p k ≡ oldest q k
+unfolding oldest
+oldest-cong p q zero e = refl
+oldest-cong p q (suc k) e = rw (e k (omega arith), oldest-cong p q k (λ v l. e v (omega arith)))
 
 -- a vertex is in the cell that is counted so, and near p
 unfoldable pub hits : Vector → ℕ → ℕ → ℕ → Vector → Bool

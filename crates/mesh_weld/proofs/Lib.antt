@@ -1,4 +1,4 @@
-pub mod Chains
+pub mod Trees
 pub mod Cells
 pub mod Walks
 pub mod Finds

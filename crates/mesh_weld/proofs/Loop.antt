@@ -17,9 +17,8 @@ use Rattle.vector.specs.declared.Vector.{Vector}
 use Rattle.mesh_weld.specs.declared.Found.{Found}
 use Rattle.mesh_weld.specs.declared.Found.the-variants.{At, Nothing}
 use Rattle.mesh_weld.specs.Weld.{cell, inCell, near, orElse, oldest, findIn, three, find, Welded, joinAs, join, weldTo, weldOf}
-use Rattle.mesh_weld.specs.Table.{bucketAt, latest, Table, Ready, grown, numberOf, moreOf, Placed}
-use Rattle.mesh_weld.proofs.Chains.{oldest-cong}
-use Rattle.mesh_weld.proofs.Finds.{find-below}
+use Rattle.mesh_weld.specs.Table.{coarseAt, Table, Ready, grown, numberOf, moreOf, Placed}
+use Rattle.mesh_weld.proofs.Finds.{oldest-cong, find-below}
 
 -- a search reads no more than the k vertices
 three-cong : (f g : ℤ → Found) (z : ℤ) → ((a : ℤ) → f a ≡ g a) → three f z ≡ three g z
@@ -65,11 +64,16 @@ pub record Built (cs vs₀ : List Float) (is₀ : List ℕ) (m i : ℕ) (s : Lis
   pub long : length (weldTo cs i .indices) ≡ i
   pub vertices : vs ≡ sets vs₀ 0 (weldTo cs i .vertices)
   pub indices : is ≡ sets is₀ 0 (weldTo cs i .indices)
-  pub table : Table s (bucketAt vs m) m k
+  pub table : Table s (coarseAt vs) m k
 
-pub built-none : (cs vs₀ : List Float) (is₀ : List ℕ) (m : ℕ) (s : List ℕ) → s ≡ replicate (length s) 0 → m ≤ length s → Built cs vs₀ is₀ m 0 s vs₀ is₀ 0
-unfolding weldTo latest
-built-none cs vs₀ is₀ m s e l =
+zeros : (n i : ℕ) → _≡_ {A = ℕ} (getD (replicate n 0) i 0) 0
+zeros zero i = refl
+zeros (suc n) zero = refl
+zeros (suc n) (suc i) = zeros n i
+
+pub built-none : (cs vs₀ : List Float) (is₀ : List ℕ) (m : ℕ) (s : List ℕ) → s ≡ replicate (length s) 0 → Built cs vs₀ is₀ m 0 s vs₀ is₀ 0
+unfolding weldTo
+built-none cs vs₀ is₀ m s e =
     record {
       count = refl;
       few = omega arith;
@@ -78,10 +82,13 @@ built-none cs vs₀ is₀ m s e l =
       vertices = refl;
       indices = refl;
       table = record {
-        heads = λ b h. ap (λ (t : List ℕ). getD t b 0) e ∙ getD-replicate (length s) b 0 0 (omega arith);
-        links = λ v h. absurd (omega arith);
+        older = record { below = λ at v h. absurd (none at v h); before = λ at v h. absurd (none at v h) };
+        held = λ v h. absurd (omega arith);
       };
     }
+  where
+    none : (at v : ℕ) → getD s at 0 ≡ v + 1 → ⊥
+    none at v h = let z : getD s at 0 ≡ 0 = ap (λ (t : List ℕ). getD t at 0) e ∙ zeros (length s) at in omega arith
 
 module _ (cs vs₀ : List Float) (is₀ : List ℕ) (m i k : ℕ) (s : List ℕ) (vs : List Float) (is : List ℕ) (b : Built cs vs₀ is₀ m i s vs is k)
     (roomy : i * 3 ≤ length vs₀) where

@@ -13,11 +13,12 @@ use lib.Dec.{eqb}
 use borrow.Author.Tests.{eqb-true, eqb-false}
 use lib.Ieee.{Float, nan}
 use Rattle.vector.specs.declared.Vector.{Vector}
+use Rattle.mesh_weld.specs.declared.Cube.{Cube}
 use Rattle.mesh_weld.specs.declared.Found.{Found}
 use Rattle.mesh_weld.specs.declared.Found.the-variants.{At, Nothing}
 use Rattle.mesh_weld.specs.Weld.{find}
-use Rattle.mesh_weld.specs.Table.{key, bucketOf, bucketAt, Table, Ready, grown, numberOf, moreOf, Placed}
-use Rattle.mesh_weld.proofs.Chains.{table-more}
+use Rattle.mesh_weld.specs.Table.{cubeOf, coarseOf, coarseAt, Table, Hung, Ready, grown, numberOf, moreOf, Placed}
+use Rattle.mesh_weld.proofs.Trees.{table-more}
 
 module _ (vs : List Float) (k : ℕ) (p : Vector) (h : k * 3 + 2 < length vs) where
   abbrev pub put : List Float
@@ -50,29 +51,29 @@ module _ (vs : List Float) (k : ℕ) (p : Vector) (h : k * 3 + 2 < length vs) wh
       getD-set-other s2 (k * 3 + 2) (k * 3) (p .z) nan (λ e. omega arith) ∙ getD-set-other s1 (k * 3 + 1) (k * 3) (p .y) nan (λ e. omega arith) ∙ getD-set-same vs (k * 3) (p .x) nan (omega arith) in
       rw (x, y, z)
 
-  pub bucket-before : (m v : ℕ) → v < k → bucketAt vs m v ≡ bucketAt put m v
-  unfolding bucketAt
-  bucket-before m v l = rw (put-before v l)
+  pub coarse-before : (v : ℕ) → v < k → coarseAt vs v ≡ coarseAt put v
+  unfolding coarseAt
+  coarse-before v l = rw (put-before v l)
 
-  pub bucket-at : (m : ℕ) → bucketAt put m k ≡ bucketOf (key (p .x) / 4) (key (p .y) / 4) (key (p .z) / 4) m
-  unfolding bucketAt
-  bucket-at m = rw put-at
+  pub coarse-at : coarseAt put k ≡ coarseOf (cubeOf p)
+  unfolding coarseAt
+  coarse-at = rw put-at
 
 -- a corner that is found, and one that is new
 module _ (s : List ℕ) (vs : List Float) (is : List ℕ) (m k i : ℕ) (p : Vector) (r : Ready s vs m k) where
   pub old : (v : ℕ) (f : Found) → f ≡ At v → f ≡ find vs k p → Placed vs is m k i p s vs (set is i v) k
   old v f e d = let o : find vs k p ≡ At v = sym d ∙ e in record { vertices = rw o; indices = rw o; count = rw o; table = r .table }
 
-  pub new : (f : Found) (b : ℕ) → f ≡ Nothing → f ≡ find vs k p → b ≡ bucketOf (key (p .x) / 4) (key (p .y) / 4) (key (p .z) / 4) m → b < m → m + k < length s
-      → (h : k * 3 + 2 < length vs) → (s′ : List ℕ) → s′ ≡ set (set s (m + k) (getD s b 0)) b (k + 1) → (vs′ : List Float) → vs′ ≡ putPoint vs k p
+  pub new : (f : Found) → f ≡ Nothing → f ≡ find vs k p → (q : Cube) → q ≡ coarseOf (cubeOf p) → (h : k * 3 + 2 < length vs) → (s′ : List ℕ) → Hung s m k q s′
+      → (vs′ : List Float) → vs′ ≡ putPoint vs k p
       → Placed vs is m k i p s′ vs′ (set is i k) (k + 1)
   unfolding putPoint
-  new f b e d q l room h s′ es vs′ ev =
+  new f e d q eq h s′ hung vs′ ev =
       let o : find vs k p ≡ Nothing = sym d ∙ e in
-      let a : b ≡ bucketAt (put vs k p h) m k = q ∙ sym (bucket-at vs k p h m) in
+      let a : q ≡ coarseAt (put vs k p h) k = eq ∙ sym (coarse-at vs k p h) in
       record {
         vertices = rw o ev;
         indices = rw o;
         count = rw o;
-        table = rw (es, ev, a) (table-more s (bucketAt vs m) (bucketAt (put vs k p h) m) m k (r .table) (bucket-before vs k p h m) (subst (λ (n : ℕ). n < m) a l) room);
+        table = rw ev (table-more s (coarseAt vs) (coarseAt (put vs k p h)) m k (r .table) (coarse-before vs k p h) (r .room) s′ (subst (λ (q : Cube). Hung s m k q s′) a hung));
       }

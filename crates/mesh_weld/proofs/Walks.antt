@@ -1,91 +1,97 @@
--- The walk down a chain finds the least. Assumes nothing.
+-- The way of a coarse cell passes all that are in it, and ends. Assumes nothing.
 use mathlib.Core.Path.{_≡_, refl, sym, ap, _∙_, subst}
-use mathlib.Core.Bool.{Bool, true, false}
 use mathlib.Core.List.{List}
-use Prim.Native.Nat.{ℕ, zero, suc, _+_, _-_, _*_, _/_, _^_, _≤_, _<_}
+use Prim.Native.Nat.{ℕ, suc, _+_, _-_, _*_, _%_, _≤_, _<_}
 use native.Mathlib.Omega.{arith}
-use native.Mathlib.Numerals.{lt-of-le-of-ne}
 use lib.ListN.{length, getD}
-use lib.Dec.{eqb, leb}
 use lib.Ieee.{Float}
-use borrow.Author.Tests.{eqb-true, eqb-false, leb-true, leb-false}
-use Rattle.mesh_weld.specs.Table.{bucketAt, latest, Table, Ready, Lesser, Least, InBucket}
-use Rattle.mesh_weld.proofs.Chains.{latest-le, latest-self, latest-in, gap}
+use Rattle.mesh_weld.specs.declared.Cube.{Cube}
+use Rattle.mesh_weld.specs.Table.{coarseAt, bucketOf, turnedOf, linkOf, On, Ends, Older, Table, Lesser, Least, InCoarse}
 
-module _ (vs : List Float) (s : List ℕ) (f : ℕ → ℕ) (m b n first : ℕ) where
-  pub record Walk (best next : ℕ) : Type 0 where
-    pub inside : next * 3 ≤ length vs
-    pub linked : m + next ≤ length s
-    pub small : next ≤ 2 ^ 20
-    pub own : latest (bucketAt vs m) b next ≡ next
-    pub links : (v : ℕ) → v < next → getD s (m + v) 0 ≡ latest (bucketAt vs m) (bucketAt vs m v) v
+-- a link is a slot further on than the vertex's own, and one of the table's
+module _ (s : List ℕ) (m k at next : ℕ) (o : Older s m k) (e : next ≡ getD s at 0) (some : next ≡ 0 → ⊥) where
+  pub full : getD s at 0 ≡ next - 1 + 1
+  full = let r : next ≡ next - 1 + 1 = omega arith in sym e ∙ r
+
+  pub number : next - 1 < k
+  number = o .below at (next - 1) full
+
+  pub further : (q : Cube) → at < linkOf (next - 1) q m
+  further q = omega (arith, o .before at (next - 1) full)
+
+  pub within : (q : Cube) → linkOf (next - 1) q m < m + k * 2
+  within q = omega (arith, number)
+
+module _ (vs : List Float) (s : List ℕ) (f : ℕ → ℕ) (m k : ℕ) (home : Cube) (first : ℕ) where
+  -- vertex i is passed, or ahead
+  pub data Met (best at : ℕ) (q : Cube) (i : ℕ) : Type 0 where
+    passed : best ≤ f i → Met best at q i
+    ahead : On s m i at q → Met best at q i
+
+  pub record Walk (best at next : ℕ) (q : Cube) : Type 0 where
+    pub slot : next ≡ getD s at 0
+    pub inside : at < m + k * 2
     pub below : best ≤ first
-    pub all : (i : ℕ) → next ≤ i → i < n → bucketAt vs m i ≡ b → best ≤ f i
-    pub to : (c : ℕ) → c ≤ first → ((i : ℕ) → i < n → c ≤ f i) → c ≤ best
-    pub under : next ≤ n
+    pub all : (i : ℕ) → i < k → InCoarse vs home i → Met best at q i
+    pub to : (c : ℕ) → c ≤ first → ((i : ℕ) → i < k → c ≤ f i) → c ≤ best
 
-  pub walk-start : (k : ℕ) → Ready s vs m k → b < m → n ≡ getD s b 0 → Walk first n
-  walk-start k r l o =
-      let e : n ≡ latest (bucketAt vs m) b k = o ∙ r .table .heads b l in
-      let le = latest-le (bucketAt vs m) b k in
+  pub walk-start : (at next : ℕ) → Table s (coarseAt vs) m k → at ≡ bucketOf home m → at < m → next ≡ getD s at 0 → Walk first at next home
+  walk-start at next t e l o =
       record {
-        inside = omega (arith, r .points);
-        linked = omega (arith, r .room);
-        small = omega (arith, r .small);
-        own = subst (λ (x : ℕ). latest (bucketAt vs m) b x ≡ x) (sym e) (latest-self (bucketAt vs m) b k);
-        links = λ v h. r .table .links v (omega arith);
+        slot = o;
+        inside = omega arith;
         below = omega arith;
-        all = λ i h j d. absurd (omega arith);
+        all = λ i h d. ahead (rw e (subst (λ (q : Cube). On s m i (bucketOf q m) q) (d .is) (t .held i h)));
         to = λ c h j. h;
-        under = omega arith;
       }
 
-  module _ (best v : ℕ) (w : Walk best (suc v)) where
-    link-is : getD s (m + v) 0 ≡ latest (bucketAt vs m) b v
-    link-is = w .links v (omega arith) ∙ ap (λ (i : ℕ). latest (bucketAt vs m) i v) (latest-in (bucketAt vs m) b v (w .own))
-
-    pub walk-less : getD s (m + v) 0 < suc v
-    walk-less = omega (arith, link-is, latest-le (bucketAt vs m) b v)
-
-    pub walk-turn : (now : ℕ) → Lesser (f v) best now → Walk now (getD s (m + v) 0)
-    walk-turn now q =
-        let le = walk-less in
+  module _ (best at next : ℕ) (q : Cube) (w : Walk best at next q) (o : Older s m k) (some : next ≡ 0 → ⊥) where
+    pub walk-turn : (now : ℕ) → Lesser (f (next - 1)) best now → (at′ : ℕ) → at′ ≡ linkOf (next - 1) q m → (q′ : Cube) → q′ ≡ turnedOf q
+        → Walk now at′ (getD s at′ 0) q′
+    walk-turn now l at′ ea q′ eq =
         record {
-          inside = omega (arith, w .inside);
-          linked = omega (arith, w .linked);
-          small = omega (arith, w .small);
-          own = rw link-is (latest-self (bucketAt vs m) b v);
-          links = λ u h. w .links u (omega arith);
-          below = omega (arith, w .below, q .right);
-          all = λ i h j e. go i h j e (leb (suc v) i) refl;
-          to = λ c h j. q .to c (j v (omega (arith, w .under))) (w .to c h j);
-          under = omega (arith, w .under);
+          slot = refl;
+          inside = omega (arith, within s m k at next o (w .slot) some q);
+          below = omega (arith, w .below, l .right);
+          all = λ i h d. rw (ea, eq) (go i (w .all i h d));
+          to = λ c h j. l .to c (j (next - 1) (number s m k at next o (w .slot) some)) (w .to c h j);
         }
       where
-        go : (i : ℕ) → getD s (m + v) 0 ≤ i → i < n → bucketAt vs m i ≡ b → (t : Bool) → leb (suc v) i ≡ t → now ≤ f i
-        go i h j e true t = let a = w .all i (leb-true _ _ t) j e in omega (arith, q .right)
-        go i h j e false t = at (eqb i v) refl
-          where
-            at : (u : Bool) → eqb i v ≡ u → now ≤ f i
-            at true u = subst (λ (x : ℕ). now ≤ f x) (sym (eqb-true i v u)) (q .left)
-            at false u = absurd (gap (bucketAt vs m) b v i (rw link-is at h) (lt-of-le-of-ne (omega (arith, leb-false (suc v) i t)) (eqb-false i v u)) e)
+        go : (i : ℕ) → Met best at q i → Met now (linkOf (next - 1) q m) (turnedOf q) i
+        go i (passed h) = passed (omega (arith, l .right))
+        go i (ahead (On.here h)) =
+            let e : next - 1 ≡ i = omega (arith, w .slot) in
+            passed (subst (λ (x : ℕ). now ≤ f x) e (l .left))
+        go i (ahead (On.past u h r)) =
+            let e : u ≡ next - 1 = omega (arith, w .slot) in
+            ahead (subst (λ (x : ℕ). On s m i (linkOf x q m) (turnedOf q)) e r)
 
-  module _ (best next : ℕ) (w : Walk best next) (some : next ≡ 0 → ⊥) where
-    at-suc : Walk best (suc (next - 1))
-    at-suc = subst (Walk best) (omega arith) w
-
-    pub turn-less : getD s (m + (next - 1)) 0 < next
-    turn-less = omega (arith, walk-less best (next - 1) at-suc)
-
-    pub turn : (now : ℕ) → Lesser (f (next - 1)) best now → Walk now (getD s (m + (next - 1)) 0)
-    turn = walk-turn best (next - 1) at-suc
-
-  pub walk-end : (k best next : ℕ) → Ready s vs m k → b < m → n ≡ getD s b 0 → Walk best next → next ≡ 0 → Least (InBucket vs m b) f k first best
-  walk-end k best next r l o w e =
-      let z : n ≡ latest (bucketAt vs m) b k = o ∙ r .table .heads b l in
-      let le = latest-le (bucketAt vs m) b k in
-      record { below = w .below; all = λ i j q. go i j (q .is) (leb n i) refl; to = λ c h j. w .to c h (λ i u. j i (omega arith)) }
+  pub walk-end : (best at next : ℕ) (q : Cube) → Walk best at next q → next ≡ 0 → Least (InCoarse vs home) f k first best
+  walk-end best at next q w e = record { below = w .below; all = λ i h d. go i (w .all i h d); to = w .to }
     where
-      go : (i : ℕ) → i < k → bucketAt vs m i ≡ b → (t : Bool) → leb n i ≡ t → best ≤ f i
-      go i j q true t = let h : latest (bucketAt vs m) b k ≤ i = subst (λ (x : ℕ). x ≤ i) (o ∙ r .table .heads b l) (leb-true n i t) in absurd (gap (bucketAt vs m) b k i h j q)
-      go i j q false t = w .all i (omega arith) (leb-false n i t) q
+      go : (i : ℕ) → Met best at q i → best ≤ f i
+      go i (passed h) = h
+      go i (ahead (On.here h)) = absurd (omega (arith, w .slot))
+      go i (ahead (On.past u h r)) = absurd (omega (arith, w .slot))
+
+-- the same way, only to its end
+module _ (s : List ℕ) (m k : ℕ) (home : Cube) where
+  pub record Seek (at next : ℕ) (q : Cube) : Type 0 where
+    pub slot : next ≡ getD s at 0
+    pub inside : at < m + k * 2
+    pub from : (e : ℕ) → Ends s m e at q → Ends s m e (bucketOf home m) home
+
+  pub seek-start : (at next : ℕ) → at ≡ bucketOf home m → at < m → next ≡ getD s at 0 → Seek at next home
+  seek-start at next e l o = record { slot = o; inside = omega arith; from = λ a h. rw e at h }
+
+  pub seek-turn : (at next : ℕ) (q : Cube) → Seek at next q → Older s m k → (next ≡ 0 → ⊥) → (at′ : ℕ) → at′ ≡ linkOf (next - 1) q m → (q′ : Cube)
+      → q′ ≡ turnedOf q → Seek at′ (getD s at′ 0) q′
+  seek-turn at next q w o some at′ ea q′ eq =
+      record {
+        slot = refl;
+        inside = omega (arith, within s m k at next o (w .slot) some q);
+        from = λ e h. w .from e (Ends.past (next - 1) (full s m k at next o (w .slot) some) (rw (ea, eq) at h));
+      }
+
+  pub seek-end : (at next : ℕ) (q : Cube) → Seek at next q → next ≡ 0 → Ends s m at (bucketOf home m) home × (at < m + k * 2)
+  seek-end at next q w e = (w .from at (Ends.stop refl (sym (w .slot) ∙ e)), w .inside)

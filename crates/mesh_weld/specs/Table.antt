@@ -1,4 +1,4 @@
--- How the code finds the vertices of a cell: a table of chains in scratch.
+-- How the code finds the vertices of a cell: a table of digital search trees in scratch.
 use Rattle.path.specs.Strokes.{pointAt}
 use Rattle.path.specs.Laid.{putPoint}
 use mathlib.Core.Path.{_≡_}
@@ -38,25 +38,56 @@ pub record Counted (c : Cube) : Type 0 where
   pub z-low : 0 < c .z
   pub z-high : c .z < 2 ^ 55
 
--- the bucket of a coarse cell, four cells wide, of m: a sum by a prime, and the share of m that this is of 2 ^ 32
+-- the coarse cell, four cells wide, that a cell lies in
+unfoldable pub coarseOf : Cube → Cube
+coarseOf c = cube (c .x / 4) (c .y / 4) (c .z / 4)
+
+unfoldable pub coarseAt : List Float → ℕ → Cube
+coarseAt vs i = coarseOf (cubeOf (pointAt vs i))
+
+-- the bucket of a coarse cell, of m: a sum by a prime, and the share of m that this is of 2 ^ 32
 unfoldable pub foldedOf : ℕ → ℕ
 foldedOf c = (c % 4294967296 + c / 4294967296) % 4294967296
 
-unfoldable pub bucketOf : ℕ → ℕ → ℕ → ℕ → ℕ
-bucketOf x y z m = (foldedOf x * 625341585 + foldedOf y * 461845907 + foldedOf z * 668265263) % 4294967291 * m / 4294967296
+unfoldable pub bucketOf : Cube → ℕ → ℕ
+bucketOf q m = (foldedOf (q .x) * 625341585 + foldedOf (q .y) * 461845907 + foldedOf (q .z) * 668265263) % 4294967291 * m / 4294967296
 
-unfoldable pub bucketAt : List Float → ℕ → ℕ → ℕ
-bucketAt vs m i = bucketOf (key (pointAt vs i .x) / 4) (key (pointAt vs i .y) / 4) (key (pointAt vs i .z) / 4) m
+-- A table is m buckets and then two links a vertex. Each of these slots holds 0, or a vertex's number plus 1. The way of a coarse cell
+-- starts at its bucket and goes on, from a slot that holds a vertex, to that link of the vertex which the cell's next bit tells.
 
--- the last of the numbers below k whose bucket is b, plus 1, or 0
-unfoldable pub latest : (ℕ → ℕ) → ℕ → ℕ → ℕ
-latest h b zero = 0
-latest h b (suc k) = let r = latest h b k in cond (eqb (h k) b) (suc k) r
+-- what is left of a coarse cell after its first bit: x, y, z take turns, the lowest bits first
+abbrev pub turnedOf : Cube → Cube
+turnedOf q = cube (q .y) (q .z) (q .x / 2)
 
--- m buckets, each with its latest vertex, and then for each vertex the one before it in its bucket
-pub record Table (s : List ℕ) (h : ℕ → ℕ) (m k : ℕ) : Type 0 where
-  pub heads : (b : ℕ) → b < m → getD s b 0 ≡ latest h b k
-  pub links : (v : ℕ) → v < k → getD s (m + v) 0 ≡ latest h (h v) v
+abbrev pub linkOf : ℕ → Cube → ℕ → ℕ
+linkOf v q m = m + v * 2 + q .x % 2
+
+-- vertex v is on the way from the slot `at` by the bits of q
+pub data On (s : List ℕ) (m v : ℕ) : ℕ → Cube → Type 0 where
+  here : {at : ℕ} {q : Cube} → getD s at 0 ≡ v + 1 → On s m v at q
+  past : {at : ℕ} {q : Cube} (u : ℕ) → getD s at 0 ≡ u + 1 → On s m v (linkOf u q m) (turnedOf q) → On s m v at q
+
+-- that way ends at the empty slot e
+pub data Ends (s : List ℕ) (m e : ℕ) : ℕ → Cube → Type 0 where
+  stop : {at : ℕ} {q : Cube} → e ≡ at → getD s at 0 ≡ 0 → Ends s m e at q
+  past : {at : ℕ} {q : Cube} (u : ℕ) → getD s at 0 ≡ u + 1 → Ends s m e (linkOf u q m) (turnedOf q) → Ends s m e at q
+
+-- a vertex of the k stands in a slot before its own links, so that every way ends
+pub record Older (s : List ℕ) (m k : ℕ) : Type 0 where
+  pub below : (at v : ℕ) → getD s at 0 ≡ v + 1 → v < k
+  pub before : (at v : ℕ) → getD s at 0 ≡ v + 1 → at < m + v * 2
+
+-- every vertex is on the way of its own coarse cell
+pub record Table (s : List ℕ) (h : ℕ → Cube) (m k : ℕ) : Type 0 where
+  pub older : Older s m k
+  pub held : (v : ℕ) → v < k → On s m v (bucketOf (h v) m) (h v)
+
+-- s with vertex k put where the way of its coarse cell ends
+pub record Hung (s : List ℕ) (m k : ℕ) (q : Cube) (s′ : List ℕ) : Type 0 where
+  pub at : ℕ
+  pub ends : Ends s m at (bucketOf q m) q
+  pub inside : at < m + k * 2
+  pub is : s′ ≡ set s at (k + 1)
 
 -- the place of w among the three cells about x
 unfoldable pub placeOf : ℕ → ℕ → ℕ
@@ -84,8 +115,8 @@ pub record Least (q : ℕ → Type 0) (f : ℕ → ℕ) (k first r : ℕ) : Type
   pub all : (i : ℕ) → i < k → q i → r ≤ f i
   pub to : (c : ℕ) → c ≤ first → ((i : ℕ) → i < k → c ≤ f i) → c ≤ r
 
-pub record InBucket (vs : List Float) (m b i : ℕ) : Type 0 where
-  pub is : bucketAt vs m i ≡ b
+pub record InCoarse (vs : List Float) (q : Cube) (i : ℕ) : Type 0 where
+  pub is : coarseAt vs i ≡ q
 
 -- at most a cell from x
 pub record Beside (x w : ℕ) : Type 0 where
@@ -109,8 +140,8 @@ pub record About (vs : List Float) (c : Cube) (i : ℕ) : Type 0 where
 
 -- the table of the k vertices in vs, and room for what is asked of it
 pub record Ready (s : List ℕ) (vs : List Float) (m k : ℕ) : Type 0 where
-  pub table : Table s (bucketAt vs m) m k
-  pub room : m + k ≤ length s
+  pub table : Table s (coarseAt vs) m k
+  pub room : m + k * 2 ≤ length s
   pub points : k * 3 ≤ length vs
   pub some : 0 < m
   pub few : m < 2 ^ 20
@@ -133,4 +164,4 @@ pub record Placed (vs : List Float) (is : List ℕ) (m k i : ℕ) (p : Vector) (
   pub vertices : vs′ ≡ grown vs k p (find vs k p)
   pub indices : is′ ≡ set is i (numberOf k (find vs k p))
   pub count : r ≡ moreOf k (find vs k p)
-  pub table : Table s′ (bucketAt vs′ m) m r
+  pub table : Table s′ (coarseAt vs′) m r

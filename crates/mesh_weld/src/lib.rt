@@ -11,10 +11,10 @@ use vector::number::Whole;
 use vector::number::floor;
 ghost use mathlib.Core.Path.{_≡_};
 ghost use Prim.Native.Nat.{_+_, _*_, _/_, _^_, _≤_, _<_};
-ghost use lib.ListN.{length, getD, set, replicate};
+ghost use lib.ListN.{length, replicate};
 ghost use lib.IntN.{natAbs};
 ghost use Rattle.mesh_weld.specs.Weld.{find as findOf};
-ghost use Rattle.mesh_weld.specs.Table.{count, key, cubeOf, Counted, foldedOf, bucketOf, placeOf, rankOf, scoreOf, scoreAt, Lesser, Least, InBucket, InColumn, InLayer, About, Ready, Placed};
+ghost use Rattle.mesh_weld.specs.Table.{count, key, cubeOf, Counted, foldedOf, bucketOf, coarseOf, turnedOf, linkOf, Older, Ends, Hung, placeOf, rankOf, scoreOf, scoreAt, Lesser, Least, InCoarse, InColumn, InLayer, About, Ready, Placed};
 ghost use Rattle.mesh_weld.specs.Call.{said, verdictOf, left, weldLeft, Laid};
 
 // The number of a vertex, or none.
@@ -78,13 +78,44 @@ fn folded(c: u64) -> u64
     (c % 4294967296 + c / 4294967296) % 4294967296
 }
 
-// The bucket of a coarse cell, of m.
-fn bucket(x: u64, y: u64, z: u64, m: usize) -> usize
-    requires { ⌜ (0 < m) × (m < 2 ^ 20) ⌝ }
-    ensures { λ r. ⌜ (r ≡ bucketOf x y z m) × (r < m) ⌝ }
+// The coarse cell, four cells wide, that a cell lies in.
+fn coarse_of(c: Cube) -> Cube
+    ensures { λ r. ⌜ r ≡ coarseOf c ⌝ }
 {
-    let t = (folded(x) * 625341585 + folded(y) * 461845907 + folded(z) * 668265263) % 4294967291;
+    Cube {
+        x: c.x / 4,
+        y: c.y / 4,
+        z: c.z / 4,
+    }
+}
+
+// The bucket of a coarse cell, of m.
+fn bucket(q: Cube, m: usize) -> usize
+    requires { ⌜ (0 < m) × (m < 2 ^ 20) ⌝ }
+    ensures { λ r. ⌜ (r ≡ bucketOf q m) × (r < m) ⌝ }
+{
+    let t = (folded(q.x) * 625341585 + folded(q.y) * 461845907 + folded(q.z) * 668265263)
+        % 4294967291;
     t as usize * m / 4294967296
+}
+
+// What is left of a coarse cell after its first bit: x, y, z take turns, the lowest bits first.
+fn turned(q: Cube) -> Cube
+    ensures { λ r. ⌜ r ≡ turnedOf q ⌝ }
+{
+    Cube {
+        x: q.y,
+        y: q.z,
+        z: q.x / 2,
+    }
+}
+
+// The slot of that one of the two links of vertex v which the first bit of q tells.
+fn link(v: usize, q: Cube, m: usize) -> usize
+    requires { ⌜ (m < 2 ^ 20) × (v < 2 ^ 20) ⌝ }
+    ensures { λ r. ⌜ r ≡ linkOf v q m ⌝ }
+{
+    m + v * 2 + (q.x % 2) as usize
 }
 
 // The place of w among the three cells about x: 0, 1, 2, or 100 where it is none of them.
@@ -126,28 +157,30 @@ fn lesser(a: u64, b: u64) -> u64
     if a < b { a } else { b }
 }
 
-// The least of a number and of what the vertices of a bucket are worth.
+// The least of a number and of what the vertices on the way of a coarse cell are worth, its own among them.
 fn look(
     vertices: &[f64],
     scratch: &[u32],
     g: VertexMerger,
     p: Vector,
     c: Cube,
-    b: usize,
+    home: Cube,
     first: u64,
 ) -> u64
     requires { ⌜ Ready (now scratch) (now vertices) (g .buckets) (g .count) ⌝ }
     requires { ⌜ Counted c ⌝ }
-    requires { ⌜ b < g .buckets ⌝ }
-    ensures { λ r. ⌜ Least (InBucket (now (vertices .entry)) (g .buckets) b) (scoreAt (now (vertices .entry)) p c) (g .count) first r ⌝ }
+    ensures { λ r. ⌜ Least (InCoarse (now (vertices .entry)) home) (scoreAt (now (vertices .entry)) p c) (g .count) first r ⌝ }
 {
-    let m = g.buckets;
     let mut best = first;
-    let mut next = scratch[b] as usize;
+    let mut q = home;
+    let mut at = bucket(home, g.buckets);
+    let mut next = scratch[at] as usize;
     while next != 0 {
         let v = next - 1;
         best = lesser(score(p, c, point_at(vertices, v), v), best);
-        next = scratch[m + v] as usize;
+        at = link(v, q, g.buckets);
+        next = scratch[at] as usize;
+        q = turned(q);
     }
     best
 }
@@ -170,7 +203,7 @@ fn find_z(
     let mut r = first;
     let mut z = (c.z - 1) / 4;
     while z <= (c.z + 1) / 4 {
-        r = look(vertices, scratch, g, p, c, bucket(x, y, z, g.buckets), r);
+        r = look(vertices, scratch, g, p, c, Cube { x: x, y: y, z: z }, r);
         z += 1;
     }
     r
@@ -225,16 +258,31 @@ fn find(vertices: &[f64], scratch: &[u32], g: VertexMerger, p: Vector, c: Cube) 
     Found::Nothing
 }
 
-// Puts vertex number g.count at the front of the chain of bucket b.
-fn insert(scratch: &mut [u32], g: VertexMerger, b: usize)
-    requires { ⌜ (b < g .buckets) × (g .buckets + g .count < length (now scratch)) × (g .count < 2 ^ 20) ⌝ }
-    ensures { λ _. ⌜ now (scratch .exit) ≡ set (set (now (scratch .entry)) (g .buckets + g .count) (getD (now (scratch .entry)) b 0)) b (g .count + 1) ⌝ }
+// The empty slot that the way of a coarse cell ends at.
+fn end(scratch: &[u32], g: VertexMerger, home: Cube) -> usize
+    requires { ⌜ Older (now scratch) (g .buckets) (g .count) ⌝ }
+    requires { ⌜ (g .buckets + g .count * 2 ≤ length (now scratch)) × (0 < g .buckets) × (g .buckets < 2 ^ 20) × (g .count ≤ 2 ^ 20) ⌝ }
+    ensures { λ r. ⌜ Ends (now (scratch .entry)) (g .buckets) r (bucketOf home (g .buckets)) home × (r < g .buckets + g .count * 2) ⌝ }
 {
-    let k = g.count;
-    let at = g.buckets + k;
-    let front = scratch[b];
-    scratch[at] = front;
-    scratch[b] = k as u32 + 1;
+    let mut q = home;
+    let mut at = bucket(home, g.buckets);
+    let mut next = scratch[at] as usize;
+    while next != 0 {
+        at = link(next - 1, q, g.buckets);
+        next = scratch[at] as usize;
+        q = turned(q);
+    }
+    at
+}
+
+// Puts vertex number g.count, of this coarse cell, there.
+fn insert(scratch: &mut [u32], g: VertexMerger, home: Cube)
+    requires { ⌜ Older (now scratch) (g .buckets) (g .count) ⌝ }
+    requires { ⌜ (g .buckets + g .count * 2 ≤ length (now scratch)) × (0 < g .buckets) × (g .buckets < 2 ^ 20) × (g .count < 2 ^ 20) ⌝ }
+    ensures { λ _. ⌜ Hung (now (scratch .entry)) (g .buckets) (g .count) home (now (scratch .exit)) ⌝ }
+{
+    let at = end(scratch, g, home);
+    scratch[at] = g.count as u32 + 1;
 }
 
 // Welds corner i, the point p, and answers how many vertices there are then.
@@ -247,7 +295,7 @@ fn get_or_insert(
     p: Vector,
 ) -> usize
     requires { ⌜ Ready (now scratch) (now vertices) (g .buckets) (g .count) ⌝ }
-    requires { ⌜ (g .buckets + g .count < length (now scratch)) × (g .count * 3 + 2 < length (now vertices)) × (i < length (now indices)) × (g .count < 2 ^ 20) ⌝ }
+    requires { ⌜ (g .count * 3 + 2 < length (now vertices)) × (i < length (now indices)) × (g .count < 2 ^ 20) ⌝ }
     ensures { λ r. ⌜ Placed (now (vertices .entry)) (now (indices .entry)) (g .buckets) (g .count) i p (now (scratch .exit)) (now (vertices .exit)) (now (indices .exit)) r ⌝ }
 {
     let k = g.count;
@@ -258,23 +306,22 @@ fn get_or_insert(
             k
         }
         Found::Nothing => {
-            let b = bucket(c.x / 4, c.y / 4, c.z / 4, g.buckets);
             put_point(vertices, k, p);
-            insert(scratch, g, b);
+            insert(scratch, g, coarse_of(c));
             indices[i] = k as u32;
             k + 1
         }
     }
 }
 
-// Welds every corner, with a table of three buckets a corner and a link a vertex, and answers how many vertices there are.
+// Welds every corner, with a table of two buckets a corner and two links a vertex, and answers how many vertices there are.
 fn weld_all(coords: &[f64], scratch: &mut [u32], vertices: &mut [f64], indices: &mut [u32]) -> usize
     requires { ⌜ now scratch ≡ replicate (length (now scratch)) 0 ⌝ }
     requires { ⌜ (length (now coords) / 3 ≤ 196608) × (length (now coords) / 3 * 4 ≤ length (now scratch)) × (length (now coords) / 3 * 3 ≤ length (now vertices)) × (length (now coords) / 3 ≤ length (now indices)) ⌝ }
     ensures { λ r. ⌜ Laid (now (coords .entry)) (now (vertices .entry)) (now (indices .entry)) (now (vertices .exit)) (now (indices .exit)) r ⌝ }
 {
     let n = coords.len() / 3;
-    let m = n * 3;
+    let m = n * 2;
     let mut k = 0;
     let mut i = 0;
     while i < n {

@@ -9,6 +9,7 @@ pub mod bench;
 pub mod call_rows;
 #[cfg(original)]
 pub mod calls;
+pub mod crowded;
 pub mod cuts;
 pub mod numbers;
 pub mod random;

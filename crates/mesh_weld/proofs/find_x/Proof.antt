@@ -2,8 +2,8 @@ use Rattle.path.specs.Strokes.{pointAt}
 use mathlib.Core.Path.{_≡_, refl, sym, ap, _∙_, subst}
 use Prim.Native.Nat.{ℕ, _+_, _-_, _*_, _/_, _≤_, _<_}
 use native.Mathlib.Omega.{arith}
-use Rattle.mesh_weld.specs.Table.{key, Least, InBucket, InColumn, InLayer, About, scoreAt}
-use Rattle.mesh_weld.proofs.Coarse.{Passed, passed-none, passed-more, passed-all, from, until, coarse-x, coarse-y, coarse-z, in-bucket, in-column, in-layer}
+use Rattle.mesh_weld.specs.Table.{key, Least, InColumn, InLayer, About, scoreAt}
+use Rattle.mesh_weld.proofs.Coarse.{Passed, passed-none, passed-more, passed-all, from, until, coarse-x, coarse-y, coarse-z, in-column, in-layer}
 use borrow.Author.Needs.{needs}
 use Rattle.mesh_weld.proofs.find_x.Statement.{statement}
 use Rattle.mesh_weld.proofs.find_x.Tie as tie

@@ -3,8 +3,8 @@ use mathlib.Core.Path.{_≡_, refl, sym, ap, _∙_, subst}
 use Prim.Native.Nat.{ℕ, _+_, _-_, _*_, _/_, _≤_, _<_}
 use native.Mathlib.Omega.{arith}
 use borrow.Author.Needs.{needs}
-use Rattle.mesh_weld.specs.Table.{key, Least, InBucket, InColumn, scoreAt}
-use Rattle.mesh_weld.proofs.Coarse.{Passed, passed-none, passed-more, passed-all, from, until, coarse-z, in-bucket}
+use Rattle.mesh_weld.specs.Table.{key, cube, Least, InCoarse, InColumn, scoreAt}
+use Rattle.mesh_weld.proofs.Coarse.{Passed, passed-none, passed-more, passed-all, from, until, coarse-z, in-coarse}
 use Rattle.mesh_weld.proofs.find_z.Statement.{statement}
 use Rattle.mesh_weld.proofs.find_z.Tie as tie
 
@@ -27,9 +27,6 @@ loop-holds c =
 add-if1 : tie.Need-add-if1 Inv-loop μ-loop
 add-if1 c = omega arith
 
-bucket-requires : tie.Need-bucket-requires Inv-loop μ-loop
-bucket-requires c κs = search needs
-
 look-requires : tie.Need-look-requires Inv-loop μ-loop
 look-requires c κs = search needs
 
@@ -41,9 +38,9 @@ loop-less c = omega arith
 
 loop-again : tie.Need-loop-again Inv-loop μ-loop
 loop-again c =
-    let l = c .before .before .before .before .loop in
-    let a = c .before .before .before .before .before .before .before .before .args in
-    (omega (arith, c .before .before .if1 .taken), passed-more (scoreAt (a .vertices .now) (a .p) (a .c)) (a .g .count) (a .first) (InColumn (a .vertices .now) (a .c) (a .x) (a .y)) (coarse-z (a .vertices .now) (a .c)) (l .z) (l .r) (c .look .result) (InBucket (a .vertices .now) (a .g .buckets) (c .before .bucket .result)) (l .inv .1) (c .look .ensures) (in-bucket (a .vertices .now) (a .c) (a .g .buckets) (a .x) (a .y) (l .z) (c .before .bucket .result) (c .before .bucket .ensures .0)))
+    let l = c .before .before .before .loop in
+    let a = c .before .before .before .before .before .before .before .args in
+    (omega (arith, c .before .if1 .taken), passed-more (scoreAt (a .vertices .now) (a .p) (a .c)) (a .g .count) (a .first) (InColumn (a .vertices .now) (a .c) (a .x) (a .y)) (coarse-z (a .vertices .now) (a .c)) (l .z) (l .r) (c .look .result) (InCoarse (a .vertices .now) (cube (a .x) (a .y) (l .z))) (l .inv .1) (c .look .ensures) (in-coarse (a .vertices .now) (a .c) (a .x) (a .y) (l .z)))
 
 returns : tie.Need-returns Inv-loop μ-loop
 returns c =
@@ -60,7 +57,6 @@ find-z-spec =
     sub-z
     loop-holds
     add-if1
-    bucket-requires
     look-requires
     add-z
     loop-less

@@ -1,8 +1,7 @@
-use mathlib.Core.Path.{_≡_, refl, sym, ap, _∙_, subst}
-use Prim.Native.Nat.{ℕ, _+_, _-_, _*_, _/_, _%_}
+-- `get_or_insert` meets its contract: a corner that is found takes its vertex's number, and one that is not becomes a vertex and hangs in the table.
+use mathlib.Core.Path.{sym, ap, _∙_}
 use native.Mathlib.Omega.{arith}
-use Rattle.mesh_weld.specs.declared.Cube.{Cube}
-use Rattle.mesh_weld.specs.Table.{key, cubeOf, bucketOf}
+use Rattle.mesh_weld.specs.Table.{coarseOf}
 use Rattle.mesh_weld.proofs.Finds.{find-below}
 use Rattle.mesh_weld.proofs.Places.{old, new}
 use borrow.Author.Needs.{needs}
@@ -32,11 +31,11 @@ slice-write-indices c = search needs
 enum-told : tie.Need-enum-told
 enum-told c = search needs
 
-bucket-requires : tie.Need-bucket-requires
-bucket-requires c κs = search needs
-
 put-point-requires : tie.Need-put-point-requires
 put-point-requires c κs = search needs
+
+coarse-of-requires : tie.Need-coarse-of-requires
+coarse-of-requires c κs = search needs
 
 insert-requires : tie.Need-insert-requires
 insert-requires c κs = search needs
@@ -45,7 +44,7 @@ cast-indices-2 : tie.Need-cast-indices-2
 cast-indices-2 c = search needs
 
 mul-indices-2 : tie.Need-mul-indices-2
-mul-indices-2 c = omega (arith, c .before .before .before .before .before .before .before .before .before .before .before .before .before .before .before .before .before .before .before .before .before .pre .1, c .before .before .before .before .before .before .before .before .before .before .before .before .before .before .before .before .before .before .before .before .before .fits, c .before .before .before .before .before .before .before .before .before .before .before .before .before .before .before .before .before .before .before .before .before .good)
+mul-indices-2 c = search needs
 
 slice-write-indices-2 : tie.Need-slice-write-indices-2
 slice-write-indices-2 c = search needs
@@ -78,16 +77,13 @@ same-length-6 : tie.Need-same-length-6
 same-length-6 c = search needs
 
 returns-2 : tie.Need-returns-2
-unfolding cubeOf
 returns-2 c =
-    let s = c .before .before .before .before .before .before .before .before .before .before .before .before .before .before .before .before .before .before .before .before .before in
+    let s = c .before .before .before .before .before .before .before .before .before .before .before .before .before .before .before .before .before .before in
     let a = s .args in
-    let b = c .before .before .before .before .before .before .before .before .bucket in
-    let e : b .result ≡ bucketOf (key (a .p .x) / 4) (key (a .p .y) / 4) (key (a .p .z) / 4) (a .g .buckets) =
-    b .ensures .0 ∙ ap (λ (q : Cube). bucketOf (q .x / 4) (q .y / 4) (q .z / 4) (a .g .buckets)) (c .before .before .before .before .before .before .before .before .before .before .before .before .before .before .before .before .before .cube-of .ensures) in
-    new (a .scratch .now) (a .vertices .now) (a .indices .now) (a .g .buckets) (a .g .count) (a .i) (a .p) (s .pre .0) (c .before .before .before .before .before .before .before .before .before .before .before .before .before .before .find .result) (b .result)
-    (c .before .before .before .before .before .before .before .before .before .before .before .before .enum-told .given .1) (c .before .before .before .before .before .before .before .before .before .before .before .before .before .before .find .ensures) e (b .ensures .1) (s .pre .1 .0) (s .pre .1 .1)
-    (c .before .before .insert .last .0) (c .before .before .insert .ensures) (c .before .before .before .before .before .before .put-point .last .0) (c .before .before .before .before .before .before .put-point .ensures)
+    let f = c .before .before .before .before .before .before .before .before .before .before .before .find in
+    new (a .scratch .now) (a .vertices .now) (a .indices .now) (a .g .buckets) (a .g .count) (a .i) (a .p) (s .pre .0) (f .result) (c .before .before .before .before .before .before .before .before .before .enum-told .given .1) (f .ensures)
+    (c .before .before .before .coarse-of .result) (c .before .before .before .coarse-of .ensures ∙ ap coarseOf (c .before .before .before .before .before .before .before .before .before .before .before .before .before .before .cube-of .ensures)) (s .pre .1 .0)
+    (c .before .before .insert .last .0) (c .before .before .insert .ensures) (c .before .before .before .before .before .before .before .put-point .last .0) (c .before .before .before .before .before .before .before .put-point .ensures)
 
 pub get-or-insert-spec : {M : Type 1} → statement M
 get-or-insert-spec =
@@ -100,8 +96,8 @@ get-or-insert-spec =
     mul-indices
     slice-write-indices
     enum-told
-    bucket-requires
     put-point-requires
+    coarse-of-requires
     insert-requires
     cast-indices-2
     mul-indices-2

@@ -28,7 +28,7 @@ loop-holds : tie.Need-loop-holds Inv-loop μ-loop
 loop-holds c =
     let s = c .before .before .before .before in
     let a = s .args in
-    (zero-le, refl, refl, refl, built-none (a .coords .now) (a .vertices .now) (a .indices .now) (length (a .coords .now) / 3 * 3) (a .scratch .now) (s .pre .0) (omega (arith, s .pre .1)))
+    (zero-le, refl, refl, refl, built-none (a .coords .now) (a .vertices .now) (a .indices .now) (length (a .coords .now) / 3 * 2) (a .scratch .now) (s .pre .0))
 
 point-at-requires : tie.Need-point-at-requires Inv-loop μ-loop
 point-at-requires c κs = omega arith
@@ -39,7 +39,7 @@ get-or-insert-requires c κs =
     let b = l .loop .inv .4 in
     let p = l .before .before .before .before .before .pre .1 in (
       record { table = b .table; room = omega (arith, b .few, p, l .loop .inv); points = omega (arith, b .few, p, l .loop .inv); some = omega (arith, p); few = omega (arith, p); small = omega (arith, b .few, p, l .loop .inv) },
-      (omega (arith, b .few, p, l .loop .inv), omega (arith, b .few, p, l .loop .inv), omega (arith, p, l .loop .inv), omega (arith, b .few, p, l .loop .inv)),
+      (omega (arith, b .few, p, l .loop .inv), omega (arith, p, l .loop .inv), omega (arith, b .few, p, l .loop .inv)),
     )
 
 add-i : tie.Need-add-i Inv-loop μ-loop
@@ -54,13 +54,13 @@ loop-again c =
     let s = l .before .before .before .before .before in
     let a = s .args in
     let r = c .before .before .before .before .before .before .get-or-insert in
-    let p : Placed (l .loop .vertices) (l .loop .indices) (length (a .coords .now) / 3 * 3) (l .loop .k) (l .loop .i) (pointAt (a .coords .now) (l .loop .i)) (r .last .0) (r .last .1 .0) (r .last .1 .1 .0) (r .result) =
+    let p : Placed (l .loop .vertices) (l .loop .indices) (length (a .coords .now) / 3 * 2) (l .loop .k) (l .loop .i) (pointAt (a .coords .now) (l .loop .i)) (r .last .0) (r .last .1 .0) (r .last .1 .1 .0) (r .result) =
     rw (c .before .before .before .before .before .before .before .point-at .ensures) at (r .ensures) in (
       omega (arith, c .before .before .before .before .before .before .before .before .before .before .before .loop-test .taken),
       r .kept .0 ∙ l .loop .inv .1,
       r .kept .1 .0 ∙ l .loop .inv .2,
       r .kept .1 .1 .0 ∙ l .loop .inv .3,
-      built-more (a .coords .now) (a .vertices .now) (a .indices .now) (length (a .coords .now) / 3 * 3) (l .loop .i) (l .loop .k) (l .loop .scratch) (l .loop .vertices) (l .loop .indices) (l .loop .inv .4)
+      built-more (a .coords .now) (a .vertices .now) (a .indices .now) (length (a .coords .now) / 3 * 2) (l .loop .i) (l .loop .k) (l .loop .scratch) (l .loop .vertices) (l .loop .indices) (l .loop .inv .4)
           (omega (arith, s .pre .1, l .loop .inv .0)) (r .last .0) (r .last .1 .0) (r .last .1 .1 .0) (r .result) p,
     )
 

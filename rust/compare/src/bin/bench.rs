@@ -56,6 +56,7 @@ const RUNS: usize = 25;
 #[cfg(original)]
 mod calls {
     use compare::bench::{Call, Rated, best};
+    use compare::crowded;
     use compare::cuts::Cut;
     use compare::torus::Mesh;
     use original::eps_1e9::{
@@ -140,6 +141,26 @@ mod calls {
             name: "weld, nothing near anything",
             port: |mesh, runs| weld_of(&cluster(mesh, 1.0), runs),
             original: |mesh, runs| get_or_insert_of(&cluster(mesh, 1.0), runs),
+        },
+        Call {
+            name: "weld, a lattice in one bucket",
+            port: |mesh, runs| weld_of(&cluster(mesh, 17179.86918), runs),
+            original: |mesh, runs| get_or_insert_of(&cluster(mesh, 17179.86918), runs),
+        },
+        Call {
+            name: "weld, corners made for one bucket",
+            port: |mesh, runs| weld_of(&crowded::one_bucket(mesh.faces.len() * 3, 0), runs),
+            original: |mesh, runs| get_or_insert_of(&crowded::one_bucket(mesh.faces.len() * 3, 0), runs),
+        },
+        Call {
+            name: "weld, the same with 16 bits alike",
+            port: |mesh, runs| weld_of(&crowded::one_bucket(mesh.faces.len() * 3, 16), runs),
+            original: |mesh, runs| get_or_insert_of(&crowded::one_bucket(mesh.faces.len() * 3, 16), runs),
+        },
+        Call {
+            name: "weld, long ways to packed cells",
+            port: |mesh, runs| weld_of(&crowded::long_ways(mesh.faces.len() * 3), runs),
+            original: |mesh, runs| get_or_insert_of(&crowded::long_ways(mesh.faces.len() * 3), runs),
         },
         Call {
             name: "draw, triangles, one vertex in every face",

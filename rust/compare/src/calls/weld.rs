@@ -2,6 +2,7 @@
 
 use super::strokes::bits;
 use super::{Left, Lent, any_pattern, dirty, patterns, room};
+use crate::crowded;
 use crate::random::Random;
 use crate::runs::Seen;
 use crate::torus;
@@ -34,15 +35,31 @@ pub fn make(random: &mut Random) -> Input {
     Input { corners, lent }
 }
 
-/// The torus of the benchmarks, with the most faces that a call takes, and with one more; and a small one jittered by less than
-/// a cell.
+/// The same, and one in four around a few places whose cells share a bucket, with long ways to some of them.
+fn make_crowded(random: &mut Random) -> Input {
+    let mut input = make(random);
+    if random.once_in(4) {
+        let low = random.one_of(&[0, 3, 16]);
+        let places: Vec<[f64; 3]> = (0..1 + random.below(18)).map(|_| crowded::in_first_bucket(random, low)).collect();
+        let part = random.one_of(&[2.5e-7, 5e-7, 1e-6]);
+        for corner in input.corners.chunks_exact_mut(3) {
+            let place = random.one_of(&places);
+            corner.copy_from_slice(&place.map(|x| x + (random.below(7) as f64 - 3.0) * part));
+        }
+    }
+    input
+}
+
+/// The torus of the benchmarks, with the most faces that a call takes, and with one more; a small one jittered by less than a
+/// cell; and corners made for the table.
 fn always() -> impl Iterator<Item = Input> {
     let torus = torus::wavy(256, 128).corners();
     let over = [&torus[..], &torus[..3]].concat();
     let mut random = Random::new(9);
     let mut jittered = torus::wavy(24, 12).corners();
     jittered.as_flattened_mut().iter_mut().for_each(|x| *x += (random.unit() - 0.5) * 1.5e-6);
-    [torus, over, jittered].into_iter().map(|corners| Input {
+    let crowded = [crowded::one_bucket(6144, 0), crowded::one_bucket(6144, 12), crowded::long_ways(6144)];
+    [torus, over, jittered].into_iter().chain(crowded).map(|corners| Input {
         lent: Lent {
             scratch: vec![7; 4 * corners.len()],
             numbers: vec![],
@@ -84,5 +101,5 @@ fn port(input: &Input) -> Left<u64> {
 
 /// Runs the port beside the original.
 pub fn run(count: u64, seed: u64) -> Seen {
-    super::run(always(), make, judged, port, (count, seed))
+    super::run(always(), make_crowded, judged, port, (count, seed))
 }

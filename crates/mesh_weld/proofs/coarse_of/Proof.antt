@@ -1,0 +1,11 @@
+use mathlib.Core.Path.{refl}
+use Rattle.mesh_weld.specs.Table.{coarseOf}
+use Rattle.mesh_weld.proofs.coarse_of.Statement.{statement}
+use Rattle.mesh_weld.proofs.coarse_of.Tie as tie
+
+returns : tie.Need-returns
+unfolding coarseOf
+returns c = refl
+
+pub coarse-of-spec : {M : Type 1} → statement M
+coarse-of-spec = tie.close (tie.spec returns)

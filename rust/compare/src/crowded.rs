@@ -1,0 +1,97 @@
+//! Corners made for the table of a weld (crates/mesh_weld/specs/Table): coarse cells that share a bucket, and cells whose way
+//! through the tree of their bucket is long.
+
+use crate::random::Random;
+
+type Point = [f64; 3];
+type Cell = [u64; 3];
+
+const SIDE: f64 = 1e-6;
+/// The coarse cell of 0, and how far from it the cells of a coordinate are taken, of some 262,000,000,000.
+const ZERO: u64 = 1 << 52;
+const FAR: u64 = 200_000_000_000;
+const PRIME: u64 = 4_294_967_291;
+const TIMES: [u64; 3] = [625_341_585, 461_845_907, 668_265_263];
+
+fn coarse(p: Point) -> Cell {
+    p.map(|x| ((x / SIDE).floor() as i64 + (1 << 54)) as u64 / 4)
+}
+
+fn folded(c: u64) -> u64 {
+    (c % (1 << 32) + c / (1 << 32)) % (1 << 32)
+}
+
+fn hash([x, y, z]: Cell) -> u64 {
+    (folded(x) * TIMES[0] + folded(y) * TIMES[1] + folded(z) * TIMES[2]) % PRIME
+}
+
+/// A point in the midst of a coarse cell, where a coordinate can lie so.
+fn within(cell: Cell) -> Option<Point> {
+    let p = cell.map(|c| (c.wrapping_sub(ZERO) as i64 as f64 * 4.0 + 1.5) * SIDE);
+    (coarse(p) == cell && p.iter().all(|x| x.abs() <= 1048576.0)).then_some(p)
+}
+
+/// A number to a power, by the prime.
+fn power(base: u64, n: u64) -> u64 {
+    (0..64).rev().fold(1, |r, k| {
+        let square = r as u128 * r as u128 % PRIME as u128;
+        let times = if n >> k & 1 == 1 { base as u128 } else { 1 };
+        (square * times % PRIME as u128) as u64
+    })
+}
+
+/// A corner whose coarse cell has the hash 0, and so bucket 0 of any number: x and y at random but for their lowest bits, which
+/// are zero, and z solved for.
+pub fn in_first_bucket(random: &mut Random, low: u32) -> Point {
+    let share = power(TIMES[2], PRIME - 2);
+    loop {
+        let [x, y] = [(); 2].map(|_| ZERO + (random.below(FAR as usize) as u64 >> low << low));
+        let left = PRIME - hash([x, y, 0]);
+        let z = (left as u128 * share as u128 % PRIME as u128) as u64;
+        let cell = [x, y, ZERO + (z.wrapping_sub(1 << 20) & 0xffff_ffff)];
+        if let Some(p) = within(cell).filter(|_| hash(cell) == 0) {
+            return p;
+        }
+    }
+}
+
+pub fn one_bucket(count: usize, low: u32) -> Vec<Point> {
+    let mut random = Random::new(5);
+    (0..count).map(|_| in_first_bucket(&mut random, low)).collect()
+}
+
+/// A corner of a coarse cell that shares a bucket of `buckets` with `home`, and the first `bits` bits of its way.
+fn beside(random: &mut Random, home: Cell, buckets: usize, bits: usize) -> Point {
+    let bucket = |cell: Cell| hash(cell) as usize * buckets >> 32;
+    let kept = [bits + 2, bits + 1, bits].map(|b| (1 << (b / 3)) - 1);
+    loop {
+        let cell = [0, 1, 2].map(|a| {
+            let any = ZERO - FAR + random.bits() % (2 * FAR);
+            any & !kept[a] | home[a] & kept[a]
+        });
+        if bucket(cell) == bucket(home) {
+            if let Some(p) = within(cell) {
+                return p;
+            }
+        }
+    }
+}
+
+/// Eight coarse cells about a corner, as full as vertices lie, with ways of 90 vertices to each; and all other corners in their
+/// midst, so that each looks through all eight.
+pub fn long_ways(count: usize) -> Vec<Point> {
+    let mut random = Random::new(6);
+    let middle = [(); 3].map(|_| ZERO + random.below(1_000_000) as u64);
+    let centre = middle.map(|c| (c - ZERO) as f64 * 4.0 * SIDE);
+    let mut corners = vec![];
+    for d in 0..8 {
+        let home = [0, 1, 2].map(|a| middle[a] - (d >> a & 1));
+        corners.extend((0..90).map(|bits| beside(&mut random, home, 2 * count, bits)));
+    }
+    let at = |k: [i32; 3], part: f64| [0, 1, 2].map(|a| centre[a] + (k[a] as f64 + 0.3) * part);
+    let grid = |i: i32| [i % 12 - 6, i / 12 % 12 - 6, i / 144 - 6];
+    let packed = (0..1728).map(grid).filter(|k| k.iter().sum::<i32>() % 2 == 0);
+    corners.extend(packed.map(|k| at(k, 1.0000003 * SIDE / 2f64.sqrt())));
+    corners.extend((0..).map(|i| at([i % 7, i / 7 % 5, 0], 1e-7)).take(count - corners.len()));
+    corners
+}
