@@ -16,7 +16,7 @@ use Rattle.path.specs.Tests.{shapedOf}
 use Rattle.path.proofs.Tests.{passed, both, few-strokes, few-points}
 use Rattle.path.proofs.Pushes.{no-more-kept}
 use Rattle.path_simplify.specs.Simplify.{simplified, distances, simplifiedOf}
-use Rattle.path_simplify.specs.Call.{roomFor, simplifyVerdict}
+use Rattle.path_simplify.specs.Call.{shortOf, roomFor, simplifyVerdict}
 use Rattle.path_simplify.proofs.Totals.{all-most, all-strokes}
 
 pub record Good (ps : List Float) (ss : List ℕ) (t : Float) (room startRoom : ℕ) : Type 0 where
@@ -26,6 +26,7 @@ pub record Good (ps : List Float) (ss : List ℕ) (t : Float) (room startRoom : 
   pub start-fit : length (nonEmpty (simplified (simplifiedOf t ps ss))) ≤ startRoom
   pub quick : distances (simplifiedOf t ps ss) ≤ 4294967296
   pub table : goodStarts (length ps / 3) ss ≡ true
+  pub short : shortOf (length ps / 3) ss ≡ true
 
 module _ (ps : List Float) (ss : List ℕ) (t : Float) (room startRoom : ℕ) where
   pub simplify-accepted : simplifyVerdict ps ss t room startRoom ≡ Accepted → Good ps ss t room startRoom
@@ -49,4 +50,5 @@ module _ (ps : List Float) (ss : List ℕ) (t : Float) (room startRoom : ℕ) wh
         start-fit = omega (arith, no-more-kept (simplified (simplifiedOf t ps ss)), all-strokes t (pointAt ps) (length ps / 3) ss);
         quick = omega arith;
         table = table .1;
+        short = short .0;
       }

@@ -1,7 +1,6 @@
 -- Laws of leaving points out of one stroke. Assumes nothing.
 use mathlib.Core.Path.{_≡_, refl, sym, ap, _∙_}
 use mathlib.Core.Bool.{Bool, true, false, cond, _&&_, true≢false}
-use mathlib.Core.List.{List, []}
 use Prim.Native.Nat.{ℕ, zero, suc, _+_, _-_, _*_, _≤_, _<_}
 use native.Mathlib.Omega.{arith}
 use native.Mathlib.Nat.{mul-add, suc-mul}
@@ -11,9 +10,6 @@ use lib.Ieee.{Float, lt}
 use borrow.Author.Tests.{ltb-true}
 use Rattle.vector.specs.declared.Vector.{Vector}
 use Rattle.vector.specs.Lengths.{zero64, segmentDistanceOf}
-use Rattle.path.specs.Laid.{putPoint, putPoints, Pen, pen, inked}
-use Rattle.path.proofs.Pushes.{ink-none, ink-append}
-use Rattle.path.proofs.Points.{points-lie, ink-more}
 use Rattle.path_simplify.specs.declared.Far.{Far}
 use Rattle.path_simplify.specs.Simplify.{fartherOf, farFrom, farthest, splitsAt, Thin, nothing, first, parts, thin}
 
@@ -54,7 +50,7 @@ far-in at lo hi h =
     let r = from-in at (at lo) (at hi) lo (lo + 1) (hi - (lo + 1)) (record { at = lo; far = zero64 }) (omega arith) (omega arith) (omega arith) in
     omega arith
 
-splits-in : (f : Far) (lo : ℕ) (t : Float) → splitsAt f lo t ≡ true → lo < f .at
+pub splits-in : (f : Far) (lo : ℕ) (t : Float) → splitsAt f lo t ≡ true → lo < f .at
 unfolding splitsAt
 splits-in f lo t e = go (lt t (f .far)) (ltb lo (f .at)) refl e
   where
@@ -115,10 +111,6 @@ module _ (w l r : Thin) (look : ℕ) (e : w ≡ parts look l r) where
   unfolding parts
   parts-measured = rw e
 
-  pub parts-ink : (p q s : Pen Float) → q ≡ inked putPoints p (l .points) → s ≡ inked putPoints q (r .points) → s ≡ inked putPoints p (w .points)
-  unfolding parts
-  parts-ink p q s g k = k ∙ rw (g, e) (ink-append points-lie p (l .points) (r .points))
-
 module _ (at : ℕ → Vector) (lo hi : ℕ) (w : Thin) (e : w ≡ first at lo hi) where
   pub first-length : length (w .points) ≡ 1
   unfolding first
@@ -127,10 +119,6 @@ module _ (at : ℕ → Vector) (lo hi : ℕ) (w : Thin) (e : w ≡ first at lo h
   pub first-measured : w .measured ≡ hi - (lo + 1)
   unfolding first
   first-measured = rw e
-
-  pub first-ink : (b q : List Float) (o : ℕ) (v : Vector) → v ≡ at lo → q ≡ putPoint b o v → pen q (o + 1) ≡ inked putPoints (pen b o) (w .points)
-  unfolding first
-  first-ink b q o v f g = rw (g, f, e) (sym (ink-none points-lie (pen (putPoint b o (at lo)) (o + 1))) ∙ ink-more b o (at lo) [])
 
 -- ---- bounds: no more points than there are, and n distances a point at most
 

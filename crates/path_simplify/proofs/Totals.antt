@@ -6,7 +6,7 @@ use mathlib.Core.List.{List, [], _∷_, _++_}
 use Prim.Native.Nat.{ℕ, zero, suc, _+_, _-_, _*_, _≤_, _<_}
 use native.Mathlib.Omega.{arith}
 use native.Mathlib.Numerals.{add-one}
-use native.Mathlib.Nat.{add-zero, le-refl, mul-le-mul-right}
+use native.Mathlib.Nat.{add-zero, zero-add, le-refl, mul-le-mul-right}
 use lib.ListN.{length, getD, drop, length-append, drop-of-length-le}
 use lib.Seq.{drop-cons, getD-drop}
 use lib.Dec.{leb, eqb}
@@ -15,11 +15,10 @@ use borrow.Author.Tests.{leb-true, eqb-true, lt-ltb, le-ltb}
 use Rattle.refusal.specs.Limits.{mostToSimplify}
 use Rattle.vector.specs.declared.Vector.{Vector}
 use Rattle.path.specs.Strokes.{goodFrom, goodStarts}
-use Rattle.path.specs.Laid.{joined, putPoint, putPoints, Pen, pen, inked}
+use Rattle.path.specs.Laid.{joined}
 use Rattle.path.proofs.Tests.{both, split}
-use Rattle.path.proofs.Pushes.{ink-none, ink-append}
-use Rattle.path.proofs.Points.{points-lie, ink-more}
 use Rattle.path_simplify.specs.Simplify.{Thin, nothing, thin, thinned, thinsOf, simplified, distances}
+use Rattle.path_simplify.specs.Notes.{plus}
 use Rattle.path_simplify.specs.Call.{shortOf}
 use Rattle.path_simplify.proofs.Thins.{Short, short, thin-none}
 
@@ -41,17 +40,13 @@ module _ (t : Float) (at : ℕ → Vector) (a e : ℕ) where
   pub thinned-length : a < e → length (thinned t at a e .points) ≡ length (thin (e - 1 - a) t at a (e - 1) .points) + 1
   thinned-length h = ap length (thinned-points h) ∙ length-append (thin (e - 1 - a) t at a (e - 1) .points) (at (e - 1) ∷ [])
 
-  -- all but the last written, then the last
-  pub thinned-ink : a < e → (p : Pen Float) (b q : List Float) (o : ℕ) (v : Vector) → pen b o ≡ inked putPoints p (thin (e - 1 - a) t at a (e - 1) .points)
-      → v ≡ at (e - 1) → q ≡ putPoint b o v → pen q (o + 1) ≡ inked putPoints p (thinned t at a e .points)
-  thinned-ink h p b q o v f g k =
-      rw (k, g, thinned-points h)
-      (sym (ink-none points-lie (pen (putPoint b o (at (e - 1))) (o + 1))) ∙ ink-more b o (at (e - 1)) []
-      ∙ ap (λ (x : Pen Float). inked putPoints x (at (e - 1) ∷ [])) f
-      ∙ ink-append points-lie p (thin (e - 1 - a) t at a (e - 1) .points) (at (e - 1) ∷ []))
+  -- the notes: nothing, then all but the last, then the last
+  pub thinned-noted : a < e → (u v w : Thin) → u ≡ nothing → v ≡ plus u (thin (e - 1 - a) t at a (e - 1)) → w ≡ plus v (record { points = at (e - 1) ∷ []; measured = 0 }) → w ≡ thinned t at a e
+  unfolding thinned plus
+  thinned-noted h u v w f g k = rw (k, g, f, lt-ltb a e h, zero-add (thin (e - 1 - a) t at a (e - 1) .measured), add-zero (thin (e - 1 - a) t at a (e - 1) .measured))
 
 -- no more points than there are, and a bound on the distances
-stroke-most : (t : Float) (at : ℕ → Vector) (a e : ℕ) → e - a ≤ mostToSimplify → Short mostToSimplify (e - a) (thinned t at a e)
+pub stroke-most : (t : Float) (at : ℕ → Vector) (a e : ℕ) → e - a ≤ mostToSimplify → Short mostToSimplify (e - a) (thinned t at a e)
 stroke-most t at a e h =
     ⊎-elim
     (λ (l : a + 2 ≤ e).
@@ -151,3 +146,13 @@ pub ends-in : (n : ℕ) (ss : List ℕ) (i : ℕ) → goodStarts n ss ≡ true �
 unfolding goodStarts
 ends-in n [] i h = le-refl n
 ends-in n (s ∷ ss) i h = subst (λ (k : ℕ). getD (s ∷ ss) k n ≤ n) (sym (add-one i)) (ends-from n s ss i (both (eqb s 0) (goodFrom n s ss) h .1))
+
+shorts : (n : ℕ) (ss : List ℕ) (i : ℕ) → shortOf n ss ≡ true → i < length ss → getD ss (suc i) n - getD ss i 0 ≤ mostToSimplify
+unfolding shortOf
+shorts n [] i h l = absurd (omega arith)
+shorts n (s ∷ ss) zero h l = leb-true _ _ (both (leb (getD ss 0 n - s) mostToSimplify) (shortOf n ss) h .0)
+shorts n (s ∷ ss) (suc i) h l = shorts n ss i (both (leb (getD ss 0 n - s) mostToSimplify) (shortOf n ss) h .1) (omega arith)
+
+-- in a table of short strokes each stroke is short
+pub short-in : (n : ℕ) (ss : List ℕ) (i : ℕ) → shortOf n ss ≡ true → i < length ss → getD ss (i + 1) n - getD ss i 0 ≤ mostToSimplify
+short-in n ss i h l = subst (λ (k : ℕ). getD ss k n - getD ss i 0 ≤ mostToSimplify) (sym (add-one i)) (shorts n ss i h l)

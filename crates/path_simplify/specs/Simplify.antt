@@ -29,6 +29,10 @@ farthest at lo hi = farFrom at (at lo) (at hi) (record { at = lo; far = zero64 }
 unfoldable pub splitsAt : Far → ℕ → Float → Bool
 splitsAt f lo t = lt t (f .far) && ltb lo (f .at)
 
+-- the place that splits the points from lo on, lo itself where none does
+unfoldable pub splitOf : Far → ℕ → Float → ℕ
+splitOf f lo t = cond (splitsAt f lo t) (f .at) lo
+
 -- the points kept, and how many distances were measured
 pub record Thin : Type 0 where
   pub points : List Vector

@@ -16,16 +16,17 @@ use vector::number::root_exceeds;
 ghost use mathlib.Core.Path.{_≡_};
 ghost use mathlib.Core.Bool.{true, false};
 ghost use Prim.Native.Nat.{_+_, _-_, _/_, _≤_, _<_};
-ghost use lib.ListN.{length};
+ghost use lib.ListN.{length, getD};
 ghost use lib.Dec.{leb};
 ghost use lib.Ieee.{binary64, div, eq, lt};
 ghost use Rattle.refusal.specs.Limits.{mostPoints, mostToSimplify};
 ghost use Rattle.path.specs.Strokes.{pointAt, goodStarts};
 ghost use Rattle.path.specs.Laid.{putPoints, pen, inked, out, push, pushAll, joined};
 ghost use Rattle.path.specs.Left.{left};
-ghost use Rattle.path_simplify.specs.Simplify.{fartherOf, farthest, splitsAt, thin, thinned, simplified, distances, simplifiedOf, placeOf};
+ghost use Rattle.path_simplify.specs.Simplify.{fartherOf, farthest, splitsAt, splitOf, thin, thinned, simplified, distances, simplifiedOf, placeOf};
 ghost use Rattle.vector.specs.Lengths.{zero64, one64, segmentDistanceOf};
 ghost use Rattle.path_simplify.specs.Squares.{segmentSquareOf, farOf};
+ghost use Rattle.path_simplify.specs.Notes.{notesLong, cleared, measured, noted, count, thinAt, plus};
 ghost use Rattle.path_simplify.specs.Call.{said, shortOf, roomFor, thresholdGood, simplifyVerdict, simplifyLeft};
 
 // What simplify wrote and how many distances it measured, or why it was refused.
@@ -37,6 +38,9 @@ pub enum Simplified {
     },
     Refused(Refusal),
 }
+
+// The notes on a stroke of the most points: two counts, and a place for each point.
+const NOTES: usize = MOST_TO_SIMPLIFY + 2;
 
 // The farthest point so far: its place, and how far it is.
 pub struct Far {
@@ -160,36 +164,104 @@ fn splits(f: Best, lo: usize, threshold: f64) -> bool
     false
 }
 
-// Writes what is kept of the points from lo up to hi, but for the last, by recursion on the falling length.
-fn keep(points: &[f64], lo: usize, hi: usize, threshold: f64, out: &mut [f64], at: usize) -> Kept
-    requires { ⌜ (at + length (thin (hi - lo) threshold (pointAt (now points)) lo hi .points) ≤ mostPoints) × (thin (hi - lo) threshold (pointAt (now points)) lo hi .measured ≤ 4294967296) × (hi < length (now points) / 3) ⌝ }
-    ensures { λ r. ⌜ (pen (now (out .exit)) (r .points) ≡ inked putPoints (pen (now (out .entry)) at) (thin (hi - lo) threshold (pointAt (now (points .entry))) lo hi .points))
-        × (r .distances ≡ thin (hi - lo) threshold (pointAt (now (points .entry))) lo hi .measured) ⌝ }
+// The place that splits the points from lo up to hi, lo itself where none does. A function of its own and called at more than
+// one place, so that the search is no part of `keep`: what `keep` holds is held once for each level.
+fn split_at(points: &[f64], lo: usize, hi: usize, threshold: f64) -> usize
+    requires { ⌜ (lo < hi) × (hi < length (now points) / 3) ⌝ }
+    ensures { λ r. ⌜ r ≡ splitOf (farthest (pointAt (now (points .entry))) lo hi) lo threshold ⌝ }
+{
+    let f = find_far(points, lo, hi);
+    if splits(f, lo, threshold) {
+        return f.at;
+    }
+    lo
+}
+
+// Begins the notes on a stroke: no distance measured, no place kept.
+fn clear(kept: &mut [usize; NOTES])
+    ensures { λ r. ⌜ now (kept .exit) ≡ cleared (now (kept .entry)) ⌝ }
+{
+    kept[0] = 0;
+    kept[1] = 0;
+}
+
+// Notes that d distances more were measured.
+fn measure(kept: &mut [usize; NOTES], d: usize)
+    requires { ⌜ getD (now kept) 0 0 + d ≤ 4294967296 ⌝ }
+    ensures { λ r. ⌜ now (kept .exit) ≡ measured (now (kept .entry)) d ⌝ }
+{
+    kept[0] = kept[0] + d;
+}
+
+// Notes that the point at place i is kept.
+fn note(kept: &mut [usize; NOTES], i: usize)
+    requires { ⌜ count (now kept) < mostToSimplify ⌝ }
+    ensures { λ r. ⌜ now (kept .exit) ≡ noted (now (kept .entry)) i ⌝ }
+{
+    let n = kept[1];
+    kept[n + 2] = i;
+    kept[1] = n + 1;
+}
+
+// Notes what is kept of the points from lo up to hi, but for the last, by recursion on the falling length. They are split at m.
+fn keep(points: &[f64], lo: usize, m: usize, hi: usize, threshold: f64, kept: &mut [usize; NOTES])
+    requires { ⌜ (lo < hi) × (hi < length (now points) / 3) × (m ≡ splitOf (farthest (pointAt (now points)) lo hi) lo threshold)
+        × (count (now kept) + length (thin (hi - lo) threshold (pointAt (now points)) lo hi .points) ≤ mostToSimplify)
+        × (getD (now kept) 0 0 + thin (hi - lo) threshold (pointAt (now points)) lo hi .measured ≤ 4294967296) × (length (now kept) ≡ notesLong) ⌝ }
+    ensures { λ r. ⌜ (thinAt (pointAt (now (points .entry))) (now (kept .exit)) ≡ plus (thinAt (pointAt (now (points .entry))) (now (kept .entry))) (thin (hi - lo) threshold (pointAt (now (points .entry))) lo hi))
+        × (count (now (kept .exit)) ≡ count (now (kept .entry)) + length (thin (hi - lo) threshold (pointAt (now (points .entry))) lo hi .points)) × (length (now (kept .exit)) ≡ notesLong) ⌝ }
+{
+    measure(kept, hi - lo - 1);
+    if m <= lo {
+        note(kept, lo);
+        return;
+    }
+    let l = split_at(points, lo, m, threshold);
+    keep(points, lo, l, m, threshold, kept);
+    let r = split_at(points, m, hi, threshold);
+    keep(points, m, r, hi, threshold, kept);
+}
+
+// The same, where there may be no points between.
+fn keep_front(points: &[f64], lo: usize, hi: usize, threshold: f64, kept: &mut [usize; NOTES])
+    requires { ⌜ (hi < length (now points) / 3)
+        × (count (now kept) + length (thin (hi - lo) threshold (pointAt (now points)) lo hi .points) ≤ mostToSimplify)
+        × (getD (now kept) 0 0 + thin (hi - lo) threshold (pointAt (now points)) lo hi .measured ≤ 4294967296) × (length (now kept) ≡ notesLong) ⌝ }
+    ensures { λ r. ⌜ (thinAt (pointAt (now (points .entry))) (now (kept .exit)) ≡ plus (thinAt (pointAt (now (points .entry))) (now (kept .entry))) (thin (hi - lo) threshold (pointAt (now (points .entry))) lo hi))
+        × (count (now (kept .exit)) ≡ count (now (kept .entry)) + length (thin (hi - lo) threshold (pointAt (now (points .entry))) lo hi .points)) × (length (now (kept .exit)) ≡ notesLong) ⌝ }
 {
     if hi <= lo {
-        return Kept {
-            points: at,
-            distances: 0,
-        };
+        return;
     }
-    let f = find_far(points, lo, hi);
-    let m = f.at;
-    if splits(f, lo, threshold) {
-        let l = keep(points, lo, m, threshold, out, at);
-        let r = keep(points, m, hi, threshold, out, l.points);
-        return Kept {
-            points: r.points,
-            distances: hi - lo - 1 + l.distances + r.distances,
-        };
-    }
-    put_point(out, at, point_at(points, lo));
-    Kept {
-        points: at + 1,
-        distances: hi - lo - 1,
+    let m = split_at(points, lo, hi, threshold);
+    keep(points, lo, m, hi, threshold, kept);
+}
+
+// Notes what is kept of a stroke from place a up to e, its last point too.
+fn keep_stroke(points: &[f64], a: usize, e: usize, threshold: f64, kept: &mut [usize; NOTES])
+    requires { ⌜ (a < e) × (e - a ≤ mostToSimplify) × (e ≤ length (now points) / 3) × (length (now kept) ≡ notesLong) ⌝ }
+    ensures { λ r. ⌜ (thinAt (pointAt (now (points .entry))) (now (kept .exit)) ≡ thinned threshold (pointAt (now (points .entry))) a e)
+        × (count (now (kept .exit)) ≡ length (thinned threshold (pointAt (now (points .entry))) a e .points)) × (length (now (kept .exit)) ≡ notesLong) ⌝ }
+{
+    clear(kept);
+    keep_front(points, a, e - 1, threshold, kept);
+    note(kept, e - 1);
+}
+
+// Writes the points at the places noted.
+fn lay(points: &[f64], kept: &[usize; NOTES], out: &mut [f64], at: usize)
+    requires { ⌜ (length (now kept) ≡ notesLong) × (count (now kept) ≤ mostToSimplify) × (at + count (now kept) ≤ mostPoints) ⌝ }
+    ensures { λ r. ⌜ now (out .exit) ≡ putPoints (now (out .entry)) at (thinAt (pointAt (now (points .entry))) (now (kept .entry)) .points) ⌝ }
+{
+    let n = kept[1];
+    let mut i = 0;
+    while i < n {
+        put_point(out, at + i, point_at(points, kept[i + 2]));
+        i += 1;
     }
 }
 
-// Writes what is kept of a stroke from place a up to e, its last point too.
+// Writes what is kept of a stroke from place a up to e.
 fn write_thinned(
     points: &[f64],
     a: usize,
@@ -197,18 +269,18 @@ fn write_thinned(
     threshold: f64,
     out: &mut [f64],
     at: usize,
+    kept: &mut [usize; NOTES],
 ) -> Kept
-    requires { ⌜ (a < e) × (at + length (thinned threshold (pointAt (now points)) a e .points) ≤ mostPoints) × (thinned threshold (pointAt (now points)) a e .measured ≤ 4294967296) × (e ≤ length (now points) / 3) ⌝ }
+    requires { ⌜ (a < e) × (e - a ≤ mostToSimplify) × (e ≤ length (now points) / 3) × (length (now kept) ≡ notesLong)
+        × (at + length (thinned threshold (pointAt (now points)) a e .points) ≤ mostPoints) ⌝ }
     ensures { λ r. ⌜ (pen (now (out .exit)) (r .points) ≡ inked putPoints (pen (now (out .entry)) at) (thinned threshold (pointAt (now (points .entry))) a e .points))
-        × (r .distances ≡ thinned threshold (pointAt (now (points .entry))) a e .measured) ⌝ }
+        × (r .distances ≡ thinned threshold (pointAt (now (points .entry))) a e .measured) × (length (now (kept .exit)) ≡ notesLong) ⌝ }
 {
-    let hi = e - 1;
-    let k = keep(points, a, hi, threshold, out, at);
-    let o = k.points;
-    put_point(out, o, point_at(points, hi));
+    keep_stroke(points, a, e, threshold, kept);
+    lay(points, kept, out, at);
     Kept {
-        points: o + 1,
-        distances: k.distances,
+        points: at + kept[1],
+        distances: kept[0],
     }
 }
 
@@ -221,12 +293,13 @@ fn write_stroke(
     out_points: &mut [f64],
     out_starts: &mut [u32],
     w: Progress,
+    kept: &mut [usize; NOTES],
 ) -> Progress
-    requires { ⌜ (w .points + length (thinned threshold (pointAt (now points)) a e .points) ≤ mostPoints) × (w .starts ≤ mostPoints)
+    requires { ⌜ (e - a ≤ mostToSimplify) × (length (now kept) ≡ notesLong) × (w .points + length (thinned threshold (pointAt (now points)) a e .points) ≤ mostPoints) × (w .starts ≤ mostPoints)
         × (w .distances + thinned threshold (pointAt (now points)) a e .measured ≤ 4294967296) × (e ≤ length (now points) / 3) ⌝ }
     ensures { λ r. ⌜ (out (now («out_points» .exit)) (now («out_starts» .exit)) (placeOf r)
         ≡ push putPoints (out (now («out_points» .entry)) (now («out_starts» .entry)) (placeOf w)) (thinned threshold (pointAt (now (points .entry))) a e .points))
-        × (r .distances ≡ w .distances + thinned threshold (pointAt (now (points .entry))) a e .measured) ⌝ }
+        × (r .distances ≡ w .distances + thinned threshold (pointAt (now (points .entry))) a e .measured) × (length (now (kept .exit)) ≡ notesLong) ⌝ }
 {
     if e <= a {
         return w;
@@ -234,7 +307,7 @@ fn write_stroke(
     let at = w.points;
     let k = w.starts;
     put_number(out_starts, k, at as u32);
-    let t = write_thinned(points, a, e, threshold, out_points, at);
+    let t = write_thinned(points, a, e, threshold, out_points, at, kept);
     Progress {
         points: t.points,
         starts: k + 1,
@@ -251,11 +324,13 @@ fn write_strokes(
     out_starts: &mut [u32],
 ) -> Progress
     requires { ⌜ (length (joined (simplified (simplifiedOf threshold (now points) (now starts)))) ≤ mostPoints) × (length (now starts) ≤ mostPoints)
-        × (distances (simplifiedOf threshold (now points) (now starts)) ≤ 4294967296) × (goodStarts (length (now points) / 3) (now starts) ≡ true) ⌝ }
+        × (distances (simplifiedOf threshold (now points) (now starts)) ≤ 4294967296) × (goodStarts (length (now points) / 3) (now starts) ≡ true)
+        × (shortOf (length (now points) / 3) (now starts) ≡ true) ⌝ }
     ensures { λ r. ⌜ (out (now («out_points» .exit)) (now («out_starts» .exit)) (placeOf r)
         ≡ pushAll putPoints (out (now («out_points» .entry)) (now («out_starts» .entry)) (record { points = 0; starts = 0 })) (simplified (simplifiedOf threshold (now (points .entry)) (now (starts .entry)))))
         × (r .distances ≡ distances (simplifiedOf threshold (now (points .entry)) (now (starts .entry)))) ⌝ }
 {
+    let mut kept = [0usize; NOTES];
     let mut w = Progress {
         points: 0,
         starts: 0,
@@ -265,7 +340,16 @@ fn write_strokes(
     while i < starts.len() {
         let a = starts[i] as usize;
         let e = end_of(starts, i, points.len() / 3);
-        w = write_stroke(points, a, e, threshold, out_points, out_starts, w);
+        w = write_stroke(
+            points,
+            a,
+            e,
+            threshold,
+            out_points,
+            out_starts,
+            w,
+            &mut kept,
+        );
         i += 1;
     }
     w

@@ -1,6 +1,6 @@
 -- `farther` meets its contract.
 use borrow.Author.Needs.{needs}
-use mathlib.Core.Path.{_≡_, sym, _∙_}
+use mathlib.Core.Path.{sym, _∙_}
 use Rattle.path_simplify.proofs.Squares.{not-farther, is-farther}
 use Rattle.path_simplify.proofs.farther.Statement.{statement}
 use Rattle.path_simplify.proofs.farther.Tie as tie

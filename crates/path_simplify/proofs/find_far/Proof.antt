@@ -9,7 +9,7 @@ use Rattle.path.specs.Strokes.{pointAt}
 use Rattle.path_simplify.specs.Simplify.{farFrom, farthest}
 use Prim.Native.Nat.{_+_, _-_, _≤_}
 use native.Mathlib.Omega.{arith}
-use mathlib.Core.Path.{_≡_, refl, sym, ap, _∙_}
+use mathlib.Core.Path.{_≡_, sym, ap, _∙_}
 use Rattle.path_simplify.proofs.find_far.Statement.{statement}
 use Rattle.path_simplify.proofs.find_far.Tie as tie
 

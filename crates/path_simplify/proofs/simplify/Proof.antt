@@ -18,7 +18,7 @@ write-strokes-requires : tie.Need-write-strokes-requires
 write-strokes-requires c κs =
     let a = c .before .before .before .before .before .before .before .before .before .args in
     let h = simplify-accepted (a .points .now) (a .starts .now) (a .threshold) _ _ (sym (c .before .before .before .before .simplify-verdict .ensures) ∙ c .before .before .enum-told .given .1) in
-    (h .few, omega (arith, h .strokes), h .quick, h .table)
+    (h .few, omega (arith, h .strokes), h .quick, h .table, h .short)
 
 enum-known-v : tie.Need-enum-known-v
 enum-known-v c = search needs

@@ -15,7 +15,7 @@ returns : tie.Need-returns
 returns c =
     let a = c .before .before .before .before .args in
     let z = thinned-none (a .threshold) (pointAt (a .points .now)) (a .a) (a .e) (c .if1 .taken) in
-    (sym (push-none putPoints _ _ (ap (λ (x : Thin). length (x .points)) z)), omega (arith, ap (λ (x : Thin). x .measured) z))
+    (sym (push-none putPoints _ _ (ap (λ (x : Thin). length (x .points)) z)), omega (arith, ap (λ (x : Thin). x .measured) z), c .before .before .before .before .pre .1)
 
 cast-put-number : tie.Need-cast-put-number
 cast-put-number c = search needs
@@ -26,11 +26,11 @@ put-number-requires c κs = search needs
 write-thinned-requires : tie.Need-write-thinned-requires
 write-thinned-requires c κs = search needs
 
-add-t18 : tie.Need-add-t18
-add-t18 c = search needs
+add-t20 : tie.Need-add-t20
+add-t20 c = search needs
 
-add-t19 : tie.Need-add-t19
-add-t19 c = search needs
+add-t21 : tie.Need-add-t21
+add-t21 c = search needs
 
 same-length : tie.Need-same-length
 same-length c = search needs
@@ -40,11 +40,13 @@ same-length-2 c = search needs
 
 returns-2 : tie.Need-returns-2
 returns-2 c =
-    let a = c .before .before .before .before .before .before .before .before .before .before .before .before .before .before .args in
-    let at = pointAt (a .points .now) in (
-      rw (c .before .before .before .before .before .before .before .before .put-number .ensures)
-          (push-pen putPoints (out (a .out-points .now) (a .out-starts .now) (placeOf (a .w))) _ (omega (arith, thinned-length (a .threshold) at (a .a) (a .e) (omega arith))) _ _ (c .before .before .before .before .write-thinned .ensures .0)),
-      omega (arith, c .before .before .before .before .write-thinned .ensures .1),
+    let a = c .before .before .before .before .before .before .before .before .before .before .before .before .before .before .before .args in
+    let at = pointAt (a .points .now) in
+    let t = c .before .before .before .before .write-thinned .ensures in (
+      rw (c .before .before .before .before .before .before .before .before .before .put-number .ensures)
+          (push-pen putPoints (out (a .out-points .now) (a .out-starts .now) (placeOf (a .w))) _ (omega (arith, thinned-length (a .threshold) at (a .a) (a .e) (omega arith))) _ _ (t .0)),
+      omega (arith, t .1),
+      t .2,
     )
 
 pub write-stroke-spec : {M : Type 1} → statement M
@@ -55,8 +57,8 @@ write-stroke-spec =
     cast-put-number
     put-number-requires
     write-thinned-requires
-    add-t18
-    add-t19
+    add-t20
+    add-t21
     same-length
     same-length-2
     returns-2)

@@ -1,12 +1,13 @@
 -- `write_strokes` meets its contract.
 use borrow.Author.Needs.{needs}
-use Rattle.path_simplify.proofs.Totals.{thins-more, thins-none, more-points, more-distances, ends-in}
+use Rattle.path_simplify.proofs.Totals.{thins-more, thins-none, more-points, more-distances, ends-in, short-in}
 use Rattle.path.proofs.Pushes.{push-turn, push-end, push-room, push-starts}
 use Rattle.path.specs.Strokes.{pointAt}
 use Rattle.path.specs.Laid.{putPoints, out, pushAll}
 use Rattle.path_simplify.specs.Simplify.{simplified, distances, simplifiedOf, placeOf}
 use Prim.Native.Nat.{ℕ, _/_}
-use lib.ListN.{length, drop}
+use lib.ListN.{length, drop, getD, length-replicate}
+use Rattle.refusal.specs.Limits.{mostToSimplify}
 use Prim.Native.Nat.{zero-le, _+_, _-_, _≤_}
 use native.Mathlib.Omega.{arith}
 use mathlib.Core.Path.{_≡_, refl, sym, ap, _∙_, subst}
@@ -14,15 +15,16 @@ use Rattle.path_simplify.proofs.write_strokes.Statement.{statement}
 use Rattle.path_simplify.proofs.write_strokes.Tie as tie
 
 abbrev Inv-loop : tie.InvT-loop
-Inv-loop points starts threshold out-points₀ out-starts₀ w₀ i₀ out-points out-starts w i = (i ≤ length starts) × (w .starts ≤ i) × (length out-points ≡ length out-points₀) × (length out-starts ≡ length out-starts₀)
+Inv-loop points starts threshold out-points₀ out-starts₀ kept₀ w₀ i₀ out-points out-starts kept w i = (i ≤ length starts) × (w .starts ≤ i) × (length out-points ≡ length out-points₀) × (length out-starts ≡ length out-starts₀)
     × (pushAll putPoints (out out-points out-starts (placeOf w)) (simplified (simplifiedOf threshold points (drop i starts))) ≡ pushAll putPoints (out out-points₀ out-starts₀ (placeOf w₀)) (simplified (simplifiedOf threshold points starts)))
     × (w .distances + distances (simplifiedOf threshold points (drop i starts)) ≡ distances (simplifiedOf threshold points starts))
+    × (length kept ≡ 4098)
 
 abbrev μ-loop : tie.MeasureT-loop
-μ-loop points starts threshold out-points₀ out-starts₀ w₀ i₀ out-points out-starts w i = length starts - i
+μ-loop points starts threshold out-points₀ out-starts₀ kept₀ w₀ i₀ out-points out-starts kept w i = length starts - i
 
 loop-holds : tie.Need-loop-holds Inv-loop μ-loop
-loop-holds c = (zero-le, zero-le, refl, refl, refl, omega arith)
+loop-holds c = (zero-le, zero-le, refl, refl, refl, omega arith, length-replicate {A = ℕ} 4098 0)
 
 mul-a : tie.Need-mul-a Inv-loop μ-loop
 mul-a c = search needs
@@ -38,13 +40,14 @@ end-of-requires c κs = search needs
 
 write-stroke-requires : tie.Need-write-stroke-requires Inv-loop μ-loop
 write-stroke-requires c κs =
-    let l = c .before .before .before .before .before in
+    let l = c .before .before .before .before .before .before in
     let a = l .before .before .before .before .before .args in
-    let m = thins-more (a .threshold) (pointAt (a .points .now)) (length (a .points .now) / 3) (a .starts .now) (l .loop .i) _ (search needs) (c .before .before .end-of .ensures) in
+    let m = thins-more (a .threshold) (pointAt (a .points .now)) (length (a .points .now) / 3) (a .starts .now) (l .loop .i) _ (search needs) (c .before .before .before .end-of .ensures) in
     let o = out (l .loop .out-points) (l .loop .out-starts) (placeOf (l .loop .w)) in
-    let room = subst (λ (k : ℕ). k ≤ length (a .points .now) / 3) (sym (c .before .before .end-of .ensures)) (ends-in (length (a .points .now) / 3) (a .starts .now) (l .loop .i) (l .before .before .before .before .before .pre .3)) in
+    let room = subst (λ (k : ℕ). k ≤ length (a .points .now) / 3) (sym (c .before .before .before .end-of .ensures)) (ends-in (length (a .points .now) / 3) (a .starts .now) (l .loop .i) (l .before .before .before .before .before .pre .3)) in
     let r = push-room putPoints o _ _ _ _ (ap (pushAll putPoints o) (sym (more-points m)) ∙ l .loop .inv .4) refl in
-    omega (arith, more-distances m, room)
+    let few = subst (λ (k : ℕ). k - getD (a .starts .now) (l .loop .i) 0 ≤ mostToSimplify) (sym (c .before .before .before .end-of .ensures)) (short-in (length (a .points .now) / 3) (a .starts .now) (l .loop .i) (l .before .before .before .before .before .pre .4) (search needs)) in
+    (few, l .loop .inv .6, omega arith, omega arith, omega (arith, more-distances m), room)
 
 add-i : tie.Need-add-i Inv-loop μ-loop
 add-i c = omega arith
@@ -55,15 +58,16 @@ loop-less c = omega arith
 loop-again : tie.Need-loop-again Inv-loop μ-loop
 loop-again c =
     let w = c .before .before .before .before in
-    let l = c .before .before .before .before .before .before .before .before .before .before in
+    let l = c .before .before .before .before .before .before .before .before .before .before .before in
     let a = l .before .before .before .before .before .args in
-    let m = thins-more (a .threshold) (pointAt (a .points .now)) (length (a .points .now) / 3) (a .starts .now) (l .loop .i) _ (search needs) (c .before .before .before .before .before .before .before .end-of .ensures) in (
+    let m = thins-more (a .threshold) (pointAt (a .points .now)) (length (a .points .now) / 3) (a .starts .now) (l .loop .i) _ (search needs) (c .before .before .before .before .before .before .before .before .end-of .ensures) in (
       omega arith,
       omega (arith, push-starts putPoints (out (l .loop .out-points) (l .loop .out-starts) (placeOf (l .loop .w))) _ _ (w .write-stroke .ensures .0)),
       cc,
       cc,
       push-turn putPoints _ _ (more-points m) (w .write-stroke .ensures .0) ∙ l .loop .inv .4,
       omega (arith, more-distances m, w .write-stroke .ensures .1, l .loop .inv .5),
+      w .write-stroke .ensures .2,
     )
 
 same-length : tie.Need-same-length Inv-loop μ-loop

@@ -1,37 +1,31 @@
 -- `write_thinned` meets its contract.
-use Rattle.path_simplify.proofs.Totals.{thinned-measured, thinned-length, thinned-ink}
-use Rattle.path.proofs.Pushes.{ink-place}
-use Rattle.path.specs.Laid.{putPoints, pen}
-use Rattle.path_simplify.specs.Simplify.{thin}
-use Rattle.path.specs.Strokes.{pointAt}
-use Prim.Native.Nat.{_-_}
 use native.Mathlib.Omega.{arith}
-use mathlib.Core.Path.{sym, _∙_}
+use Rattle.path.specs.Strokes.{pointAt}
+use Rattle.path_simplify.proofs.Totals.{stroke-most}
+use Rattle.path_simplify.proofs.Notes.{laid-ink, laid-measured}
 use borrow.Author.Needs.{needs}
 use Rattle.path_simplify.proofs.write_thinned.Statement.{statement}
 use Rattle.path_simplify.proofs.write_thinned.Tie as tie
 
-sub-hi : tie.Need-sub-hi
-sub-hi c = search needs
+keep-stroke-requires : tie.Need-keep-stroke-requires
+keep-stroke-requires c κs = search needs
 
-keep-requires : tie.Need-keep-requires
-keep-requires c κs =
-    let a = c .before .before .before .args in
-    let at = pointAt (a .points .now) in
-    omega (arith, thinned-length (a .threshold) at (a .a) (a .e) (c .before .before .before .pre .0), thinned-measured (a .threshold) at (a .a) (a .e) (c .before .before .before .pre .0))
+lay-requires : tie.Need-lay-requires
+lay-requires c κs =
+    let a = c .before .before .before .before .before .before .args in
+    let p = c .before .before .before .before .before .before .pre in
+    let k = c .before .before .keep-stroke .ensures in
+    let w = stroke-most (a .threshold) (pointAt (a .points .now)) (a .a) (a .e) (p .1) in
+    (k .2, omega (arith, k .1, w .few, p .1), omega (arith, k .1, p .4))
 
-point-at-requires : tie.Need-point-at-requires
-point-at-requires c κs = search needs
-
-put-point-requires : tie.Need-put-point-requires
-put-point-requires c κs = search needs
+element-copy-out-t15 : tie.Need-element-copy-out-t15
+element-copy-out-t15 c = search needs
 
 add-t16 : tie.Need-add-t16
-add-t16 c =
-    let a = c .before .before .before .before .before .before .before .before .before .before .before .args in
-    let at = pointAt (a .points .now) in
-    let o = ink-place putPoints (pen (a .out .now) (a .at)) (thin (a .e - 1 - a .a) (a .threshold) at (a .a) (a .e - 1) .points) (c .before .before .before .before .before .before .before .keep .ensures .0) in
-    omega (arith, c .before .before .before .before .before .before .before .before .before .before .before .pre .1, thinned-length (a .threshold) at (a .a) (a .e) (c .before .before .before .before .before .before .before .before .before .before .before .pre .0))
+add-t16 c = omega (arith, c .before .before .before .before .before .before .keep-stroke .ensures .1, c .before .before .before .before .before .before .before .before .before .before .pre .4)
+
+element-copy-out-t19 : tie.Need-element-copy-out-t19
+element-copy-out-t19 c = search needs
 
 same-length : tie.Need-same-length
 same-length c = search needs
@@ -39,20 +33,18 @@ same-length c = search needs
 returns : tie.Need-returns
 returns c =
     let a = c .before .before .before .before .before .before .before .before .before .before .before .args in
+    let k = c .before .before .before .before .before .before .before .keep-stroke .ensures in
     let at = pointAt (a .points .now) in
-    let h = c .before .before .before .before .before .before .before .before .before .before .before .pre .0 in (
-      thinned-ink (a .threshold) at (a .a) (a .e) h (pen (a .out .now) (a .at)) _ _ _ _ (c .before .before .before .before .before .before .before .keep .ensures .0) (c .before .before .before .point-at .ensures) (c .before .before .put-point .ensures),
-      c .before .before .before .before .before .before .before .keep .ensures .1 ∙ sym (thinned-measured (a .threshold) at (a .a) (a .e) h),
-    )
+    (laid-ink at _ _ (k .0) (k .1) (a .out .now) _ (a .at) (c .before .before .before .before .lay .ensures), laid-measured at _ _ (k .0), k .2)
 
 pub write-thinned-spec : {M : Type 1} → statement M
 write-thinned-spec =
     tie.close
     (tie.spec
-    sub-hi
-    keep-requires
-    point-at-requires
-    put-point-requires
+    keep-stroke-requires
+    lay-requires
+    element-copy-out-t15
     add-t16
+    element-copy-out-t19
     same-length
     returns)
