@@ -115,7 +115,7 @@ product k n h = le-trans (mul-le-mul-right n h) (omega (arith, div-add-mod' tooM
 pub stroke-bound : (before k n all sum : ℕ) (l step : Float) → before ≤ tooMany → 1 ≤ k → all ≡ sum + 1 → sum ≤ k * (length (stepsOf tooMany l step step) + 1)
     → n ≡ length (stepsOf (tooMany - before) l step step) → capped (before + all) ≤ capped (before + 1 + k * (n + 1))
 stroke-bound before k n all sum l step b p e h f =
-    ⊎-elim (λ t. cap-mono (before + all) (before + 1 + k * (n + 1)) (let m : n ≡ length (stepsOf tooMany l step step) = f ∙ ap length (sym t) in rw m (omega arith)))
+    ⊎-elim (λ (t : stepsOf tooMany l step step ≡ stepsOf (tooMany - before) l step step). cap-mono (before + all) (before + 1 + k * (n + 1)) (let m : n ≡ length (stepsOf tooMany l step step) = f ∙ ap length (sym t) in rw m (omega arith)))
     (λ t. let m : 1 * (n + 1) ≤ k * (n + 1) = mul-le-mul-right (n + 1) p in omega (arith, cap-most (before + all), cap-over (before + 1 + k * (n + 1)) (omega arith)))
     (steps-within before l step b)
 

@@ -6,16 +6,20 @@ use mathlib.Core.List.{List, [], _∷_, _++_, map}
 use Prim.Native.Nat.{ℕ, zero, suc, zero-le, _+_, _-_, _/_, _≤_, _<_}
 use native.Mathlib.Omega.{arith}
 use lib.ListN.{length, getD, drop, length-append, length-map}
+use lib.Dec.{T}
 use lib.Ieee.{Float, binary64, add, lt}
+use lib.Ieee.Bits.{is-false}
 use Rattle.vector.specs.declared.Vector.{Vector}
-use Rattle.vector.specs.Vectors.{subOf}
-use Rattle.vector.specs.Lengths.{lengthOf}
+use Rattle.vector.specs.Root.{rootOf}
+use Rattle.vector.specs.Vectors.{subOf, lengthSquaredOf}
+use Rattle.vector.specs.Lengths.{orNan, lengthOf}
+use Rattle.vector.proofs.Order.{lt-one-way}
 use Rattle.path.specs.Strokes.{pointAt, gather}
 use Rattle.path.specs.Laid.{putPoint, putPoints, Pen, pen, inked}
 use Rattle.path.proofs.Gathers.{gather-more, gather-none, length-gather, strokes-more, strokes-none}
 use Rattle.path.proofs.Pushes.{ink-at, ink-none, ink-append}
 use Rattle.path.proofs.Points.{points-lie, ink-more}
-use Rattle.path_chop.specs.Chop.{tooMany, along, stepsOf, cut, span, spans, chopped, choppedBy, choppedOf}
+use Rattle.path_chop.specs.Chop.{tooMany, along, stepsOf, reachOf, cut, span, spans, chopped, choppedBy, choppedOf}
 
 -- ---- the steps of a span
 
@@ -73,12 +77,39 @@ module _ (f : Float → Vector) (n k : ℕ) (l step d : Float) (b : List Float) 
   pub steps-end : k ≤ n → inked putPoints (pen b o) (map f (stepsOf (k - n) l step d)) ≡ pen b o
   steps-end h = rw (steps-none n k l step d h) (ink-none points-lie (pen b o))
 
+-- ---- a length, or the step where no step lies within it
+
+not-below-itself : (x : Float) → lt x x ≡ false
+not-below-itself x = go (lt x x) refl
+  where
+    go : (b : Bool) → lt x x ≡ b → lt x x ≡ false
+    go false e = e
+    go true e = is-false (lt x x) (lt-one-way x x (subst T (sym e) tt))
+
+-- a reach by the square of the length
+pub reach-is : (step s r : Float) (v : Vector) → s ≡ lengthSquaredOf v → r ≡ reachOf step (orNan (rootOf s)) → r ≡ reachOf step (lengthOf v)
+reach-is step s r v e f = f ∙ ap (λ (z : Float). reachOf step (orNan (rootOf z))) e
+
+pub reach-cut : (n : ℕ) (f : Float → Float → Vector) (step l : Float) → map (f (reachOf step l)) (stepsOf n (reachOf step l) step step) ≡ map (f l) (stepsOf n l step step)
+reach-cut n f step l = go (lt step l) refl
+  where
+    go : (b : Bool) → lt step l ≡ b → map (f (cond b l step)) (stepsOf n (cond b l step) step step) ≡ map (f l) (stepsOf n l step step)
+    go true e = refl
+    go false e = ap (map (f step)) (stop n step step step (not-below-itself step)) ∙ ap (map (f l)) (sym (stop n l step step e))
+
+pub reach-count : (n : ℕ) (step l : Float) → length (stepsOf n (reachOf step l) step step) ≡ length (stepsOf n l step step)
+reach-count n step l = go (lt step l) refl
+  where
+    go : (b : Bool) → lt step l ≡ b → length (stepsOf n (cond b l step) step step) ≡ length (stepsOf n l step step)
+    go true e = refl
+    go false e = ap length (stop n step step step (not-below-itself step)) ∙ ap length (sym (stop n l step step e))
+
 -- ---- a span: what its steps give, and its end
 
-module _ (step : Float) (a b : Vector) (v : Vector) (l : Float) (ev : v ≡ subOf b a) (el : l ≡ lengthOf v) where
+module _ (step : Float) (a b : Vector) (v : Vector) (l : Float) (ev : v ≡ subOf b a) (el : l ≡ reachOf step (lengthOf v)) where
   span-is : span tooMany step a b ≡ map (along a v l) (stepsOf tooMany l step step) ++ (b ∷ [])
   unfolding span cut
-  span-is = rw (el, ev)
+  span-is = rw (el, ev) (ap (λ (x : List Vector). x ++ (b ∷ [])) (sym (reach-cut tooMany (along a (subOf b a)) step (lengthOf (subOf b a)))))
 
   pub span-length : length (span tooMany step a b) ≡ length (stepsOf tooMany l step step) + 1
   span-length =
@@ -98,6 +129,11 @@ module _ (step : Float) (a b : Vector) (v : Vector) (l : Float) (ev : v ≡ subO
       let ds = map (along a v l) (stepsOf tooMany l step step) in
       rw (g, span-is)
       (sym (ink-none points-lie (pen (putPoint q o b) (o + 1))) ∙ ink-more q o b [] ∙ ap (λ (x : Pen Float). inked putPoints x (b ∷ [])) e ∙ ink-append points-lie p ds (b ∷ []))
+
+-- by its length
+pub span-count : (step : Float) (a b v : Vector) (l : Float) → v ≡ subOf b a → l ≡ lengthOf v → length (span tooMany step a b) ≡ length (stepsOf tooMany l step step) + 1
+span-count step a b v l ev el =
+    span-length step a b v (reachOf step (lengthOf v)) ev refl ∙ ap (λ (n : ℕ). n + 1) (reach-count tooMany step (lengthOf v)) ∙ ap (λ (x : Float). length (stepsOf tooMany x step step) + 1) (sym el)
 
 -- ---- the spans of a stroke
 

@@ -17,7 +17,7 @@ use Rattle.path.specs.Laid.{joined, nonEmpty}
 use Rattle.path.proofs.Tests.{split}
 use Rattle.path.proofs.Pushes.{some-kept, none-kept}
 use Rattle.path_chop.specs.Chop.{tooMany, stepsOf, span, spans, chopped, keptOf, capped}
-use Rattle.path_chop.proofs.Chops.{steps-within, span-length, spans-more, stroke-short, stroke-some}
+use Rattle.path_chop.proofs.Chops.{steps-within, span-count, spans-more, stroke-short, stroke-some}
 
 -- ---- a count that is cut off
 
@@ -77,7 +77,7 @@ pub spans-count : (step : Float) (at : ℕ → Vector) (i e : ℕ) (p : Vector) 
     → length (spans tooMany step p (gather at i (e - i))) ≡ length (stepsOf tooMany l step step) + 1 + length (spans tooMany step q (gather at (i + 1) (e - (i + 1))))
 spans-count step at i e p h q f v g l k =
     ap length (spans-more step at i e p h q f) ∙ length-append (span tooMany step p q) (spans tooMany step q (gather at (i + 1) (e - (i + 1))))
-    ∙ ap (λ (n : ℕ). n + length (spans tooMany step q (gather at (i + 1) (e - (i + 1))))) (span-length step p q v l g k)
+    ∙ ap (λ (n : ℕ). n + length (spans tooMany step q (gather at (i + 1) (e - (i + 1))))) (span-count step p q v l g k)
 
 module _ (step : Float) (at : ℕ → Vector) (a e : ℕ) {rest all : List (List Vector)} (f : all ≡ chopped tooMany step (gather at a (e - a)) ∷ rest) where
   pub joined-count : length (joined all) ≡ length (chopped tooMany step (gather at a (e - a))) + length (joined rest)

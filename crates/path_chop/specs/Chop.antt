@@ -24,6 +24,10 @@ unfoldable pub stepsOf : ℕ → Float → Float → Float → List Float
 stepsOf zero l step d = []
 stepsOf (suc n) l step d = let r = d ∷ stepsOf n l step (add binary64 d step) in cond (lt d l) r []
 
+-- a length, or the step where no step lies within it: what is cut is the same (`reach-cut`, proofs/Chops)
+abbrev pub reachOf : Float → Float → Float
+reachOf step l = cond (lt step l) l step
+
 -- what a span from a to b gives after a, where v is b from a and l its length: n steps at most, and b
 unfoldable pub cut : ℕ → Float → Vector → Vector → Vector → Float → List Vector
 cut n step a b v l = map (along a v l) (stepsOf n l step step) ++ (b ∷ [])

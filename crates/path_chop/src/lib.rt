@@ -12,6 +12,7 @@ use refusal::MOST_POINTS;
 use refusal::Refusal;
 use refusal::Verdict;
 use vector::Vector;
+use vector::number::root_exceeds;
 use vector::number::root_or_nan;
 ghost use mathlib.Core.Path.{_≡_};
 ghost use mathlib.Core.Bool.{cond, _&&_};
@@ -27,7 +28,7 @@ ghost use Rattle.vector.specs.Vectors.{subOf};
 ghost use Rattle.path.specs.Strokes.{pointAt, gather, strokesOf};
 ghost use Rattle.path.specs.Laid.{putPoints, pen, inked, out, push, pushAll, joined, nonEmpty};
 ghost use Rattle.path.specs.Left.{left};
-ghost use Rattle.path_chop.specs.Chop.{tooMany, along, stepsOf, cut, span, spans, chopped, choppedOf, keptOf, capped};
+ghost use Rattle.path_chop.specs.Chop.{tooMany, along, stepsOf, reachOf, cut, span, spans, chopped, choppedOf, keptOf, capped};
 ghost use Rattle.path_chop.specs.Call.{said, roomFor, chopVerdict, chopLeft};
 
 // What a chop wrote, or why it was refused.
@@ -77,7 +78,17 @@ fn write_steps(a: Vector, v: Vector, l: f64, step: f64, out: &mut [f64], at: usi
     o
 }
 
-// Writes what the span from a to b gives after a, where v is b from a and l its length.
+// The length of a span by its square, or the step where none lies within the span: the root is worked out only where it serves.
+fn reach(square: f64, step: f64) -> f64
+    ensures { λ r. ⌜ r ≡ reachOf step (orNan (rootOf square)) ⌝ }
+{
+    if root_exceeds(square, step) {
+        return root_or_nan(square);
+    }
+    step
+}
+
+// Writes what the span from a to b gives after a, where v is b from a and l its reach.
 fn write_span(
     a: Vector,
     b: Vector,
@@ -87,7 +98,7 @@ fn write_span(
     out: &mut [f64],
     at: usize,
 ) -> usize
-    requires { ⌜ (v ≡ subOf b a) × (l ≡ lengthOf v) × (at + length (span tooMany step a b) ≤ mostPoints) ⌝ }
+    requires { ⌜ (v ≡ subOf b a) × (l ≡ reachOf step (lengthOf v)) × (at + length (span tooMany step a b) ≤ mostPoints) ⌝ }
     ensures { λ r. ⌜ pen (now (out .exit)) r ≡ inked putPoints (pen (now (out .entry)) at) (span tooMany step a b) ⌝ }
 {
     let o = write_steps(a, v, l, step, out, at);
@@ -95,7 +106,7 @@ fn write_span(
     o + 1
 }
 
-// Writes what the points from place i up to e give after the point before them. The length of the next span
+// Writes what the points from place i up to e give after the point before them. The reach of the next span
 // is asked for before the steps of this one are written, so that its root is worked out beside them.
 fn write_spans(
     points: &[f64],
@@ -113,11 +124,11 @@ fn write_spans(
     let mut o = at;
     let mut p = first;
     let mut v = point_at(points, i).sub(first);
-    let mut l = v.length();
+    let mut l = reach(v.length_squared(), step);
     while j < e {
         let q = point_at(points, j);
         let w = point_at(points, j + 1).sub(q);
-        let m = w.length();
+        let m = reach(w.length_squared(), step);
         o = write_span(p, q, v, l, step, out, o);
         p = q;
         v = w;
@@ -248,7 +259,7 @@ fn bound_stroke(points: &[f64], a: usize, e: usize, step: f64, so_far: usize) ->
         return so_far;
     }
     let most = longest(points, a + 1, e, point_at(points, a));
-    let n = count_steps(root_or_nan(most), step, TOO_MANY - so_far) + 1;
+    let n = count_steps(reach(most, step), step, TOO_MANY - so_far) + 1;
     let k = e - (a + 1);
     if TOO_MANY / n < k {
         return TOO_MANY;
@@ -287,7 +298,8 @@ fn count_spans(points: &[f64], i: usize, e: usize, first: Vector, step: f64, so_
             return TOO_MANY;
         }
         let q = point_at(points, j);
-        n = n + count_steps(q.sub(p).length(), step, TOO_MANY - n) + 1;
+        let l = reach(q.sub(p).length_squared(), step);
+        n = n + count_steps(l, step, TOO_MANY - n) + 1;
         p = q;
         j += 1;
     }

@@ -9,7 +9,7 @@ use lib.Ieee.{Float}
 use Rattle.path.specs.Strokes.{pointAt, gather}
 use Rattle.path_chop.specs.Chop.{tooMany, stepsOf, chopped, capped}
 use Rattle.path_chop.proofs.Counts.{kept-zero, kept-one, cap-under, cap-most}
-use Rattle.path_chop.proofs.Chops.{stroke-short, chopped-length}
+use Rattle.path_chop.proofs.Chops.{reach-count, stroke-short, chopped-length}
 use Rattle.path_chop.proofs.Bounds.{product, stroke-bound}
 use Rattle.path_chop.proofs.bound_stroke.Statement.{statement}
 use Rattle.path_chop.proofs.bound_stroke.Tie as tie
@@ -33,8 +33,8 @@ point-at-requires c κs = search needs
 longest-requires : tie.Need-longest-requires
 longest-requires c κs = search needs
 
-root-or-nan-requires : tie.Need-root-or-nan-requires
-root-or-nan-requires c κs = search needs
+reach-requires : tie.Need-reach-requires
+reach-requires c κs = search needs
 
 sub-count-steps : tie.Need-sub-count-steps
 sub-count-steps c = search needs
@@ -76,7 +76,7 @@ returns-3 c =
     let two = kept-one (a .e - a .a) (λ z. c .before .before .before .before .before .before .if1 .left (c .before .before .before .before .before .before .before .kept .ensures ∙ z)) in
     let l = chopped-length (a .step) (pointAt (a .points .now)) (a .a) (a .e) (omega arith) _ (c .before .before .before .before .before .point-at .ensures) in
     let m = c .before .before .before .before .longest .ensures (a .step) in
-    let n = c .before .before .count-steps .ensures .0 ∙ ap (λ (z : Float). length (stepsOf (tooMany - a .so-far) z (a .step) (a .step))) (c .before .before .before .root-or-nan .ensures) in
+    let n = c .before .before .count-steps .ensures .0 ∙ ap (λ (z : Float). length (stepsOf (tooMany - a .so-far) z (a .step) (a .step))) (c .before .before .before .reach .ensures) ∙ reach-count (tooMany - a .so-far) (a .step) _ in
     rw (c .cap .ensures) (stroke-bound (a .so-far) _ _ _ _ _ (a .step) (s .pre) (omega arith) l m n, cap-most _)
 
 pub bound-stroke-spec : {M : Type 1} → statement M
@@ -88,7 +88,7 @@ bound-stroke-spec =
     add-longest
     point-at-requires
     longest-requires
-    root-or-nan-requires
+    reach-requires
     sub-count-steps
     count-steps-requires
     add-n

@@ -1,9 +1,11 @@
 -- `count_spans` meets its contract.
 use borrow.Author.Needs.{needs}
 use Rattle.path_chop.proofs.Counts.{count-within, spans-count, cap-over}
-use Rattle.path_chop.proofs.Chops.{spans-none}
+use Rattle.path_chop.proofs.Chops.{reach-is, reach-count, spans-none}
+use lib.Ieee.{Float}
+use Rattle.vector.specs.Lengths.{lengthOf}
 use Rattle.path.specs.Strokes.{pointAt, gather}
-use Rattle.path_chop.specs.Chop.{tooMany, spans, capped}
+use Rattle.path_chop.specs.Chop.{tooMany, stepsOf, spans, capped}
 use lib.ListN.{length}
 use Prim.Native.Nat.{ℕ, _+_, _-_, _≤_}
 use native.Mathlib.Omega.{arith}
@@ -31,8 +33,11 @@ point-at-requires c κs = search needs
 sub-requires : tie.Need-sub-requires Inv-loop μ-loop
 sub-requires c κs = search needs
 
-length-requires : tie.Need-length-requires Inv-loop μ-loop
-length-requires c κs = search needs
+length-squared-requires : tie.Need-length-squared-requires Inv-loop μ-loop
+length-squared-requires c κs = search needs
+
+reach-requires : tie.Need-reach-requires Inv-loop μ-loop
+reach-requires c κs = search needs
 
 sub-count-steps : tie.Need-sub-count-steps Inv-loop μ-loop
 sub-count-steps c = omega arith
@@ -54,12 +59,16 @@ loop-less c = omega arith
 
 loop-again : tie.Need-loop-again Inv-loop μ-loop
 loop-again c =
-    let l = c .before .before .before .before .before .before in
-    let a = l .before .before .args in
-    let rest = length (spans tooMany (a .step) (c .before .before .before .point-at .result) (gather (pointAt (a .points .now)) (l .loop .j + 1) (a .e - (l .loop .j + 1)))) in
-    let k = spans-count (a .step) (pointAt (a .points .now)) (l .loop .j) (a .e) (l .loop .p) (search needs) _ (c .before .before .before .point-at .ensures) _ (c .before .before .sub .ensures) _ (c .before .length .ensures) in (
+    let l = c .before .before .before .before .before .before .before in
+    let a = c .before .before .before .before .before .before .before .before .before .args in
+    let q = c .before .before .before .before .point-at in
+    let v = c .before .before .before .sub in
+    let rest = length (spans tooMany (a .step) (q .result) (gather (pointAt (a .points .now)) (l .loop .j + 1) (a .e - (l .loop .j + 1)))) in
+    let k = spans-count (a .step) (pointAt (a .points .now)) (l .loop .j) (a .e) (l .loop .p) (search needs) _ (q .ensures) _ (v .ensures) (lengthOf (v .result)) refl in
+    let r = reach-is (a .step) _ _ (v .result) (c .before .before .length-squared .ensures) (c .before .reach .ensures) in
+    let n = c .count-steps .ensures .0 ∙ ap (λ (z : Float). length (stepsOf (tooMany - l .loop .n) z (a .step) (a .step))) r ∙ reach-count (tooMany - l .loop .n) (a .step) (lengthOf (v .result)) in (
       omega arith,
-      ap (λ (x : ℕ). capped (l .loop .n + x + 1 + rest)) (c .count-steps .ensures .0) ∙ count-within (l .loop .n) rest _ (a .step) (omega arith) ∙ ap capped (omega arith) ∙ l .loop .inv .1,
+      ap (λ (x : ℕ). capped (l .loop .n + x + 1 + rest)) n ∙ count-within (l .loop .n) rest (lengthOf (v .result)) (a .step) (omega arith) ∙ ap capped (omega arith) ∙ l .loop .inv .1,
     )
 
 cap-requires : tie.Need-cap-requires Inv-loop μ-loop
@@ -82,7 +91,8 @@ count-spans-spec =
     returns
     point-at-requires
     sub-requires
-    length-requires
+    length-squared-requires
+    reach-requires
     sub-count-steps
     count-steps-requires
     add-n

@@ -1,12 +1,12 @@
 -- `write_spans` meets its contract: v and l are always those of the span that comes next.
 use borrow.Author.Needs.{needs}
-use Rattle.path_chop.proofs.Chops.{spans-turn, spans-end, spans-room}
+use Rattle.path_chop.proofs.Chops.{reach-is, spans-turn, spans-end, spans-room}
 use Rattle.vector.specs.declared.Vector.{Vector}
 use Rattle.vector.specs.Vectors.{subOf}
 use Rattle.vector.specs.Lengths.{lengthOf}
 use Rattle.path.specs.Strokes.{pointAt, gather}
 use Rattle.path.specs.Laid.{putPoints, pen, inked, out}
-use Rattle.path_chop.specs.Chop.{tooMany, spans}
+use Rattle.path_chop.specs.Chop.{tooMany, reachOf, spans}
 use lib.ListN.{length}
 use Prim.Native.Nat.{_-_}
 use native.Mathlib.Omega.{arith}
@@ -17,7 +17,7 @@ use Rattle.path_chop.proofs.write_spans.Tie as tie
 abbrev Inv-loop : tie.InvT-loop
 Inv-loop points i e step out₀ at j₀ o₀ p₀ v₀ l₀ out j o p v l =
     (length out ≡ length out₀) × (inked putPoints (pen out o) (spans tooMany step p (gather (pointAt points) j (e - j))) ≡ inked putPoints (pen out₀ at) (spans tooMany step p₀ (gather (pointAt points) i (e - i))))
-    × (v ≡ subOf (pointAt points j) p) × (l ≡ lengthOf v)
+    × (v ≡ subOf (pointAt points j) p) × (l ≡ reachOf step (lengthOf v))
 
 abbrev μ-loop : tie.MeasureT-loop
 μ-loop points i e step out₀ at j₀ o₀ p₀ v₀ l₀ out j o p v l = e - j
@@ -28,11 +28,16 @@ point-at-requires c κs = search needs
 sub-requires : tie.Need-sub-requires Inv-loop μ-loop
 sub-requires c κs = search needs
 
-length-requires : tie.Need-length-requires Inv-loop μ-loop
-length-requires c κs = search needs
+length-squared-requires : tie.Need-length-squared-requires Inv-loop μ-loop
+length-squared-requires c κs = search needs
+
+reach-requires : tie.Need-reach-requires Inv-loop μ-loop
+reach-requires c κs = search needs
 
 loop-holds : tie.Need-loop-holds Inv-loop μ-loop
-loop-holds c = (refl, refl, c .before .sub .ensures ∙ ap (λ (z : Vector). subOf z (c .before .before .before .before .before .args .first)) (c .before .before .point-at .ensures), c .length .ensures)
+loop-holds c =
+    let a = c .before .before .before .before .before .before .args in
+    (refl, refl, c .before .before .sub .ensures ∙ ap (λ (z : Vector). subOf z (a .first)) (c .before .before .before .point-at .ensures), reach-is (a .step) _ _ _ (c .before .length-squared .ensures) (c .reach .ensures))
 
 point-at-requires-2 : tie.Need-point-at-requires-2 Inv-loop μ-loop
 point-at-requires-2 c κs = search needs
@@ -46,34 +51,37 @@ point-at-requires-3 c κs = search needs
 sub-requires-2 : tie.Need-sub-requires-2 Inv-loop μ-loop
 sub-requires-2 c κs = search needs
 
-length-requires-2 : tie.Need-length-requires-2 Inv-loop μ-loop
-length-requires-2 c κs = search needs
+length-squared-requires-2 : tie.Need-length-squared-requires-2 Inv-loop μ-loop
+length-squared-requires-2 c κs = search needs
+
+reach-requires-2 : tie.Need-reach-requires-2 Inv-loop μ-loop
+reach-requires-2 c κs = search needs
 
 write-span-requires : tie.Need-write-span-requires Inv-loop μ-loop
 write-span-requires c κs =
-    let l = c .before .before .before .before .before .before in
-    let a = c .before .before .before .before .before .before .before .before .before .before .before .before .args in
-    let q = c .before .before .before .before .point-at2 .ensures in (
+    let l = c .before .before .before .before .before .before .before in
+    let a = c .before .before .before .before .before .before .before .before .before .before .before .before .before .before .args in
+    let q = c .before .before .before .before .before .point-at2 .ensures in (
       l .loop .inv .2 ∙ ap (λ (z : Vector). subOf z (l .loop .p)) (sym q),
       l .loop .inv .3,
       omega (arith, spans-room (a .step) (pointAt (a .points .now)) (l .loop .j) (a .e) (l .loop .p) (search needs) _ q (pen (l .loop .out) (l .loop .o)) (pen (a .out .now) (a .at)) _ (l .loop .inv .1)),
     )
 
 add-j : tie.Need-add-j Inv-loop μ-loop
-add-j c = add-point-at (c .before .before .before .before .before .before .before)
+add-j c = add-point-at (c .before .before .before .before .before .before .before .before)
 
 loop-less : tie.Need-loop-less Inv-loop μ-loop
-loop-less c = omega (arith, c .before .before .before .before .before .before .before .before .loop-test .taken)
+loop-less c = omega (arith, c .before .before .before .before .before .before .before .before .before .loop-test .taken)
 
 loop-again : tie.Need-loop-again Inv-loop μ-loop
 loop-again c =
-    let l = c .before .before .before .before .before .before .before .before .before in
-    let a = c .before .before .before .before .before .before .before .before .before .before .before .before .before .before .before .args in
-    let q = c .before .before .before .before .before .before .before .point-at2 in (
+    let l = c .before .before .before .before .before .before .before .before .before .before in
+    let a = c .before .before .before .before .before .before .before .before .before .before .before .before .before .before .before .before .before .args in
+    let q = c .before .before .before .before .before .before .before .before .point-at2 in (
       cc,
-      spans-turn (a .step) (pointAt (a .points .now)) (l .loop .j) (a .e) (l .loop .p) (c .before .before .before .before .before .before .before .before .loop-test .taken) _ (q .ensures) (pen (l .loop .out) (l .loop .o)) _ (c .before .before .write-span .ensures) ∙ l .loop .inv .1,
-      c .before .before .before .before .before .sub2 .ensures ∙ ap (λ (z : Vector). subOf z (q .result)) (c .before .before .before .before .before .before .point-at3 .ensures),
-      c .before .before .before .before .length2 .ensures,
+      spans-turn (a .step) (pointAt (a .points .now)) (l .loop .j) (a .e) (l .loop .p) (c .before .before .before .before .before .before .before .before .before .loop-test .taken) _ (q .ensures) (pen (l .loop .out) (l .loop .o)) _ (c .before .before .write-span .ensures) ∙ l .loop .inv .1,
+      c .before .before .before .before .before .before .sub2 .ensures ∙ ap (λ (z : Vector). subOf z (q .result)) (c .before .before .before .before .before .before .before .point-at3 .ensures),
+      reach-is (a .step) _ _ _ (c .before .before .before .before .before .length-squared2 .ensures) (c .before .before .before .before .reach2 .ensures),
     )
 
 same-length : tie.Need-same-length Inv-loop μ-loop
@@ -82,7 +90,7 @@ same-length c = search needs
 returns : tie.Need-returns Inv-loop μ-loop
 returns c =
     let l = c .before in
-    let a = c .before .before .before .before .before .before .before .args in
+    let a = c .before .before .before .before .before .before .before .before .args in
     sym (spans-end (a .step) (pointAt (a .points .now)) (l .loop .j) (a .e) (l .loop .p) (search needs) _) ∙ l .loop .inv .1
 
 pub write-spans-spec : {M : Type 1} → statement M
@@ -93,13 +101,15 @@ write-spans-spec =
     μ-loop
     point-at-requires
     sub-requires
-    length-requires
+    length-squared-requires
+    reach-requires
     loop-holds
     point-at-requires-2
     add-point-at
     point-at-requires-3
     sub-requires-2
-    length-requires-2
+    length-squared-requires-2
+    reach-requires-2
     write-span-requires
     add-j
     loop-less

@@ -1,0 +1,20 @@
+-- `reach` meets its contract.
+use borrow.Author.Needs.{needs}
+use mathlib.Core.Path.{sym, _∙_}
+use Rattle.path_chop.proofs.reach.Statement.{statement}
+use Rattle.path_chop.proofs.reach.Tie as tie
+
+root-exceeds-requires : tie.Need-root-exceeds-requires
+root-exceeds-requires c κs = search needs
+
+root-or-nan-requires : tie.Need-root-or-nan-requires
+root-or-nan-requires c κs = search needs
+
+returns : tie.Need-returns
+returns c = rw (sym (c .before .before .root-exceeds .ensures) ∙ c .before .if1 .taken) (c .root-or-nan .ensures)
+
+returns-2 : tie.Need-returns-2
+returns-2 c = rw (sym (c .before .root-exceeds .ensures) ∙ c .if1 .left)
+
+pub reach-spec : {M : Type 1} → statement M
+reach-spec = tie.close (tie.spec root-exceeds-requires root-or-nan-requires returns returns-2)
