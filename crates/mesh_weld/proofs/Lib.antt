@@ -5,6 +5,7 @@ pub mod Finds
 pub mod Places
 pub mod Loop
 pub mod Ranks
+pub mod Equals
 pub mod Coarse
 pub mod Calls
 pub mod Cases

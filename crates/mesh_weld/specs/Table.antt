@@ -8,7 +8,7 @@ use Prim.Native.Nat.{ℕ, zero, suc, _+_, _-_, _*_, _/_, _%_, _^_, _<_, _≤_}
 use lib.ListN.{length, getD, set}
 use lib.Dec.{eqb, leb}
 use lib.IntN.{ℤ, pos, negsuc}
-use lib.Ieee.{Float}
+use lib.Ieee.{Float, eq}
 use Rattle.vector.specs.declared.Vector.{Vector}
 use Rattle.mesh_weld.specs.declared.Cube.{Cube}
 use Rattle.mesh_weld.specs.declared.Found.{Found}
@@ -96,6 +96,10 @@ placeOf w x = cond (leb x (w + 1)) (cond (leb w (x + 1)) (w + 1 - x) 100) 100
 -- the place of v's cell among the 27 about c: below 27, or else 100 and more
 unfoldable pub rankOf : Cube → Vector → ℕ
 rankOf c v = placeOf (key (v .x)) (c .x) * 9 + placeOf (key (v .y)) (c .y) * 3 + placeOf (key (v .z)) (c .z)
+
+-- two points with equal numbers
+unfoldable pub equalOf : Vector → Vector → Bool
+equalOf p v = eq (p .x) (v .x) && (eq (p .y) (v .y) && eq (p .z) (v .z))
 
 -- what vertex i, the point v, is worth to p: the place and then the number, as one number, below 27 * 2 ^ 20 where the vertex is found
 unfoldable pub scoreOf : Vector → Cube → Vector → ℕ → ℕ

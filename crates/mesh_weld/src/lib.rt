@@ -14,7 +14,7 @@ ghost use Prim.Native.Nat.{_+_, _*_, _/_, _^_, _≤_, _<_};
 ghost use lib.ListN.{length, replicate};
 ghost use lib.IntN.{natAbs};
 ghost use Rattle.mesh_weld.specs.Weld.{find as findOf};
-ghost use Rattle.mesh_weld.specs.Table.{count, key, cubeOf, Counted, foldedOf, bucketOf, coarseOf, turnedOf, linkOf, Older, Ends, Hung, placeOf, rankOf, scoreOf, scoreAt, Lesser, Least, InCoarse, InColumn, InLayer, About, Ready, Placed};
+ghost use Rattle.mesh_weld.specs.Table.{count, key, cubeOf, Counted, foldedOf, bucketOf, coarseOf, turnedOf, linkOf, Older, Ends, Hung, placeOf, rankOf, equalOf, scoreOf, scoreAt, Lesser, Least, InCoarse, InColumn, InLayer, About, Ready, Placed};
 ghost use Rattle.mesh_weld.specs.Call.{said, verdictOf, left, weldLeft, Laid};
 
 // The number of a vertex, or none.
@@ -139,13 +139,30 @@ fn rank(v: Vector, c: Cube) -> u64
     place(key_of(v.x), c.x) * 9 + place(key_of(v.y), c.y) * 3 + place(key_of(v.z), c.z)
 }
 
+// Whether two points have equal numbers.
+fn equal(p: Vector, v: Vector) -> bool
+    ensures { λ r. ⌜ r ≡ equalOf p v ⌝ }
+{
+    if p.x == v.x {
+        if p.y == v.y {
+            return p.z == v.z;
+        }
+    }
+    false
+}
+
 // What vertex number i, the point v, is worth to the corner p in cell c: the place of its cell and then its number; TOP and more is nothing.
+// An equal vertex lies in the same cell, place 13: most corners of a mesh find one, and are spared its divisions.
 fn score(p: Vector, c: Cube, v: Vector, i: usize) -> u64
     requires { ⌜ Counted c ⌝ }
     requires { ⌜ i < 2 ^ 20 ⌝ }
+    requires { ⌜ c ≡ cubeOf p ⌝ }
     ensures { λ r. ⌜ r ≡ scoreOf p c v i ⌝ }
 {
     if p.distance_squared(v) < 0.000001 * 0.000001 {
+        if equal(p, v) {
+            return 13631488 + i as u64;
+        }
         return rank(v, c) * 1048576 + i as u64;
     }
     28311552
@@ -169,6 +186,7 @@ fn look(
 ) -> u64
     requires { ⌜ Ready (now scratch) (now vertices) (g .buckets) (g .count) ⌝ }
     requires { ⌜ Counted c ⌝ }
+    requires { ⌜ c ≡ cubeOf p ⌝ }
     ensures { λ r. ⌜ Least (InCoarse (now (vertices .entry)) home) (scoreAt (now (vertices .entry)) p c) (g .count) first r ⌝ }
 {
     let mut best = first;
@@ -198,6 +216,7 @@ fn find_z(
 ) -> u64
     requires { ⌜ Ready (now scratch) (now vertices) (g .buckets) (g .count) ⌝ }
     requires { ⌜ Counted c ⌝ }
+    requires { ⌜ c ≡ cubeOf p ⌝ }
     ensures { λ r. ⌜ Least (InColumn (now (vertices .entry)) c x y) (scoreAt (now (vertices .entry)) p c) (g .count) first r ⌝ }
 {
     let mut r = first;
@@ -220,6 +239,7 @@ fn find_y(
 ) -> u64
     requires { ⌜ Ready (now scratch) (now vertices) (g .buckets) (g .count) ⌝ }
     requires { ⌜ Counted c ⌝ }
+    requires { ⌜ c ≡ cubeOf p ⌝ }
     ensures { λ r. ⌜ Least (InLayer (now (vertices .entry)) c x) (scoreAt (now (vertices .entry)) p c) (g .count) first r ⌝ }
 {
     let mut r = first;
@@ -234,6 +254,7 @@ fn find_y(
 fn find_x(vertices: &[f64], scratch: &[u32], g: VertexMerger, p: Vector, c: Cube, first: u64) -> u64
     requires { ⌜ Ready (now scratch) (now vertices) (g .buckets) (g .count) ⌝ }
     requires { ⌜ Counted c ⌝ }
+    requires { ⌜ c ≡ cubeOf p ⌝ }
     ensures { λ r. ⌜ Least (About (now (vertices .entry)) c) (scoreAt (now (vertices .entry)) p c) (g .count) first r ⌝ }
 {
     let mut r = first;

@@ -8,7 +8,7 @@ use Rattle.mesh_weld.proofs.find.Statement.{statement}
 use Rattle.mesh_weld.proofs.find.Tie as tie
 
 find-x-requires : tie.Need-find-x-requires
-find-x-requires c κs = let s = c .before .before in (s .pre .0, subst Counted (sym (s .pre .1)) (cube-counted (s .args .p)))
+find-x-requires c κs = let s = c .before .before in (s .pre .0, (subst Counted (sym (s .pre .1)) (cube-counted (s .args .p)), s .pre .1))
 
 returns : tie.Need-returns
 returns c =

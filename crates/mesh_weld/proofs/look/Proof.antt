@@ -49,7 +49,7 @@ score-requires c κs =
     let s = c .before .before .before .before .before .before .before in
     let l = c .before .before .loop in
     let n = number (s .args .scratch .now) (s .args .g .buckets) (s .args .g .count) (l .at) (l .next) (s .pre .0 .table .older) (l .inv .slot) (c .before .loop-test .taken) in
-    (s .pre .1, omega (arith, s .pre .0 .small))
+    (s .pre .1 .0, (omega (arith, s .pre .0 .small), s .pre .1 .1))
 
 lesser-requires : tie.Need-lesser-requires Inv-loop μ-loop
 lesser-requires c κs = search needs
