@@ -41,6 +41,15 @@ module _ {A : Type 0} (at : ℕ → A) where
       let r = joined-from n t ss (k .1) (k .2) in
       ap (λ (l : List A). gather at s (t - s) ++ l) r ∙ sym (ap (gather at s) e ∙ gather-add s (t - s) (n - t) ∙ ap (λ (x : ℕ). gather at s (t - s) ++ gather at x (n - t)) f)
 
+  -- a good table has all elements in its strokes
+  pub table-all : (n : ℕ) (ss : List ℕ) → goodStarts n ss ≡ true → length (joined (strokesOf at n ss)) ≡ n
+  unfolding goodStarts strokesOf joined
+  table-all n [] g = sym (eqb-true n 0 g)
+  table-all n (s ∷ ss) g =
+      let b = both (eqb s 0) (goodFrom n s ss) g in
+      let z = eqb-true s 0 (b .0) in
+      omega (arith, ap length (joined-from n s ss (omega arith) (b .1)), length-gather at s (n - s))
+
   next-start : (a n : ℕ) (x : List A) (xs : List (List A)) → n ≡ a + length (joined (x ∷ xs)) → getD (startsFrom (a + length x) xs) 0 n ≡ a + length x
   unfolding startsFrom joined
   next-start a n x [] e = omega (arith, length-append x [])

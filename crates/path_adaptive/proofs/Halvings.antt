@@ -14,37 +14,17 @@ use Rattle.refusal.specs.declared.Verdict.the-variants.{Accepted, Refused}
 use Rattle.refusal.proofs.Unique.{never-both, same-values}
 use Rattle.vector.specs.declared.Vector.{Vector}
 use Rattle.vector.specs.declared.matrix.Matrix.{Matrix}
-use Rattle.path.specs.Strokes.{goodFrom, goodStarts, gather, pointAt, strokesOf}
+use Rattle.path.specs.Strokes.{goodStarts, pointAt}
 use Rattle.path.specs.Laid.{joined, nonEmpty}
 use Rattle.path.specs.Left.{Left, left, laid, leftBy}
 use Rattle.path.specs.Tests.{shapedOf}
-use Rattle.path.proofs.Gathers.{length-gather}
+use Rattle.path.proofs.Again.{table-all}
 use Rattle.path.proofs.Tests.{passed, both}
 use Rattle.path_adaptive.specs.declared.Adapted.the-variants as A
 use Rattle.path_adaptive.specs.Walk.{viewOf, walksOf, adapted, halvingsOf}
 use Rattle.path_adaptive.specs.Call.{said, adaptiveVerdict, adaptiveLeft}
 use Rattle.path_adaptive.proofs.Tallies.{points-and-halvings}
 use Rattle.path_adaptive.proofs.Calls.{adaptive-accepted}
-
--- the strokes of a good table have all the points
-module _ (at : ℕ → Vector) (n : ℕ) where
-  from-all : (s : ℕ) (ss : List ℕ) → s ≤ n → goodFrom n s ss ≡ true → length (joined (strokesOf at n (s ∷ ss))) ≡ n - s
-  unfolding goodFrom strokesOf joined
-  from-all s [] h g = omega (arith, length-append (gather at s (n - s)) [], length-gather at s (n - s))
-  from-all s (u ∷ us) h g =
-      let d = both (leb s u && leb u n) (goodFrom n u us) g in
-      let f = both (leb s u) (leb u n) (d .0) in
-      let l = leb-true s u (f .0) in
-      let m = leb-true u n (f .1) in
-      omega (arith, from-all u us m (d .1), length-append (gather at s (u - s)) (joined (strokesOf at n (u ∷ us))), length-gather at s (u - s))
-
-  all-points : (ss : List ℕ) → goodStarts n ss ≡ true → length (joined (strokesOf at n ss)) ≡ n
-  unfolding goodStarts strokesOf joined
-  all-points [] g = sym (eqb-true n 0 g)
-  all-points (s ∷ ss) g =
-      let b = both (eqb s 0) (goodFrom n s ss) g in
-      let z = eqb-true s 0 (b .0) in
-      omega (arith, from-all s ss (omega arith) (b .1))
 
 -- an accepted call's values
 module _ (v : Verdict) (more : List ℕ) (ss : List (List Vector)) (op : List Float) (os : List ℕ) where
@@ -74,7 +54,7 @@ counted-all ps ss m width height step tolerance room startRoom h =
     let g = adaptive-accepted ps ss m width height step tolerance room startRoom h in
     let t = accepted-table ps ss m width height step tolerance room startRoom h in
     points-and-halvings (viewOf m width height step tolerance) (strokesOf (pointAt ps) (length ps / 3) ss) (g .calm)
-    ∙ ap (λ (n : ℕ). n + halvingsOf (walksOf (viewOf m width height step tolerance) ps ss)) (all-points (pointAt ps) (length ps / 3) ss t)
+    ∙ ap (λ (n : ℕ). n + halvingsOf (walksOf (viewOf m width height step tolerance) ps ss)) (table-all (pointAt ps) (length ps / 3) ss t)
 
 -- of an accepted call's answer, by the contract alone
 pub written-is-read-and-halvings : (ps : List Float) (ss : List ℕ) (m : Matrix) (width height step tolerance : Float) (op : List Float) (os : List ℕ)

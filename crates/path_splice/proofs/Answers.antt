@@ -7,18 +7,17 @@ use Prim.Native.Nat.{ℕ, suc, _+_, _-_, _*_, _/_, _%_, _≤_}
 use native.Mathlib.Omega.{arith}
 use lib.ListN.{length, getD, drop, replicate, length-append}
 use lib.Dec.{leb, eqb}
-use borrow.Author.Tests.{leb-true, eqb-true}
+use borrow.Author.Tests.{leb-true}
 use Rattle.refusal.specs.declared.Refusal.{Refusal}
 use Rattle.refusal.specs.declared.Verdict.{Verdict}
 use Rattle.refusal.specs.declared.Verdict.the-variants.{Accepted, Refused}
 use Rattle.refusal.specs.Said.{Said, accepted, refused}
-use Rattle.path.specs.Strokes.{goodFrom, goodStarts, strokesOf, numberAt}
+use Rattle.path.specs.Strokes.{goodStarts, numberAt}
 use Rattle.path.specs.Laid.{over, joined, startsFrom}
 use Rattle.path.specs.Tests.{countedOf}
 use Rattle.path.proofs.Tests.{passed, both}
-use Rattle.path.proofs.Gathers.{length-gather}
 use Rattle.path.proofs.Pushes.{length-starts, over-sets}
-use Rattle.path.proofs.Again.{strokes-count, joined-from}
+use Rattle.path.proofs.Again.{strokes-count, table-all}
 use Rattle.path_splice.specs.Text.{strokesIn, part, mark, textOf, marksOf, ReadOut, Filled, LaidOut}
 use Rattle.path_splice.specs.Lent.{verdictOf, left, laid, leftBy}
 use Rattle.order.specs.Regions.{region, put}
@@ -130,15 +129,6 @@ unfolding joined sum
 joined-size [] = refl
 joined-size (s ∷ ss) = omega (arith, length-append s (joined ss), joined-size ss)
 
--- the strokes of a good table have as many points as the table is for, at most
-pub table-sum : {A : Type 0} (at : ℕ → A) (n : ℕ) (ss : List ℕ) → goodStarts n ss ≡ true → sum length (strokesOf at n ss) ≤ n
-unfolding goodStarts strokesOf sum
-table-sum at n [] g = omega arith
-table-sum at n (s ∷ ss) g =
-    let p = both (eqb s 0) (goodFrom n s ss) g in
-    let z = eqb-true s 0 (p .0) in
-    omega (arith, joined-size (strokesOf at n (s ∷ ss)), ap length (joined-from at n s ss (omega arith) (p .1)), length-gather at s (n - s))
-
 over-put : (op l : List ℕ) → length l ≤ length op → put op 0 l ≡ over op l
 unfolding put
 over-put op l h = over-sets op l h
@@ -201,7 +191,7 @@ module _ (ps ss : List ℕ) (g : goodStarts (length ps) ss ≡ true) (s s′ : L
   marks = ap (λ (k : ℕ). marksOf All2 0 (region s′ (2 * length ss) k)) e ∙ marks-is All2 s s′ (length ss) r (strokes-count (numberAt ps) (length ps) ss) F H
 
   pub out-points : length (textOf All2 (region s′ (2 * length ss) h)) ≤ length ps
-  out-points = omega (arith, ap length text, joined-size Out, points-most 0 eqb numbers All2, table-sum (numberAt ps) (length ps) ss g)
+  out-points = omega (arith, ap length text, joined-size Out, points-most 0 eqb numbers All2, joined-size All2, table-all (numberAt ps) (length ps) ss g)
 
   pub out-starts : length (marksOf All2 0 (region s′ (2 * length ss) h)) ≤ length ss
   out-starts = omega (arith, ap length marks, length-starts 0 Out, strokes-most 0 eqb numbers All2, strokes-count (numberAt ps) (length ps) ss)
