@@ -153,20 +153,11 @@ module _ (t is flips : List ℕ) (e : take (5 * length is) t ≡ wordsOf is flip
   lg : length flags ≡ length is
   lg = map-length (flagOf is flips) (length is)
 
-  pub words-long : 5 * length is ≤ length t
-  words-long = said-long t is zeros flags lz lg words
-
   pub words-low : (k : ℕ) → k < length is → getD t k 0 ≡ lowOf is k
   words-low = said-low t is zeros flags lz lg words
 
   pub words-high : (k : ℕ) → k < length is → getD t (length is + k) 0 ≡ highOf is k
   words-high = said-high t is zeros flags lz lg words
-
-  pub words-pair : (k : ℕ) → k < length is → pairIn t (length is) k ≡ pairOf is k
-  words-pair = said-pair t is zeros flags lz lg words
-
-  pub words-sides : region t (2 * length is) (length is) ≡ sidesOf is
-  words-sides = said-sides t is zeros flags lz lg words
 
   pub words-side : (p : ℕ) → p < length is → getD t (2 * length is + p) 0 ≡ getD (sidesOf is) p 0
   words-side = said-side t is zeros flags lz lg words
@@ -176,9 +167,6 @@ module _ (t is flips : List ℕ) (e : take (5 * length is) t ≡ wordsOf is flip
 
   pub words-end : (p : ℕ) → p < length is → endIn t (length is) p ≡ p + 1 + alike (pairOf is) (getD (sidesOf is) p 0) (drop (p + 1) (sidesOf is))
   words-end = said-end t is zeros flags lz lg words
-
-  pub words-after : (p : ℕ) → p < length is → p < endIn t (length is) p
-  words-after p h = omega (arith, words-end p h)
 
   pub words-within : (p : ℕ) → p < length is → endIn t (length is) p ≤ length is
   words-within p h = omega (arith, words-end p h, group-within (pairOf is) (sidesOf is) p (omega (arith, sides-length is)), sides-length is)
@@ -215,9 +203,6 @@ module _ (s is flips : List ℕ) (few : length is ≤ 3 * mostFaces) (room : 5 *
 
   pub edges-words : take (5 * length is) (edgesIn s is flips) ≡ wordsOf is flips
   edges-words = ap (take (5 * length is)) edges-put ∙ region-put s 0 (5 * length is) (wordsOf is flips) (words-length is flips) (omega arith)
-
-  pub edges-rest : (j : ℕ) → 5 * length is ≤ j → getD (edgesIn s is flips) j 0 ≡ getD s j 0
-  edges-rest j h = ap (λ (l : List ℕ). getD l j 0) edges-put ∙ get-off s 0 (wordsOf is flips) j (inr (omega (arith, words-length is flips)))
 
 pub edges-length : (s is flips : List ℕ) → length (edgesIn s is flips) ≡ length s
 unfolding edgesIn

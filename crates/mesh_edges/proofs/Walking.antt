@@ -16,10 +16,6 @@ use Rattle.mesh_edges.proofs.Ups.{sides-length, side-below}
 use Rattle.mesh_edges.proofs.Mates.{flag-two}
 use Rattle.mesh_edges.proofs.Said.{words-side, words-flag, words-within, words-group}
 
-pub walk-none : (is : List ℕ) → edgesOf is ≡ [] ++ groupsOf (pairOf is) (drop 0 (sidesOf is))
-unfolding edgesOf
-walk-none is = refl
-
 module _ (t is flips : List ℕ) (e : take (5 * length is) t ≡ wordsOf is flips) (done : List (List ℕ)) (p : ℕ) (h : p < length is)
     (w : edgesOf is ≡ done ++ groupsOf (pairOf is) (drop p (sidesOf is))) where
   -- the edge at p, and those after it
@@ -43,13 +39,3 @@ module _ (t is flips : List ℕ) (e : take (5 * length is) t ≡ wordsOf is flip
         let d : drop p S ≡ getD S p 0 ∷ getD S (p + 1) 0 ∷ drop (suc (p + 1)) S =
         drop-cons S p 0 (omega (arith, sides-length is)) ∙ ap (λ (z : ℕ). getD S p 0 ∷ drop z S) (sym (add-one p)) ∙ ap (λ (l : List ℕ). getD S p 0 ∷ l) (drop-cons S (p + 1) 0 (omega (arith, sides-length is, next-lt))) in
         ap (λ (z : ℕ). take z (drop p S)) j ∙ ap (take 2) d
-
-    pub walk-two : (a b : ℕ) → a ≡ getD t (2 * length is + p) 0 → b ≡ getD t (2 * length is + p + 1) 0
-        → getD t (4 * length is + a) 0 ≡ cond (flipped (min (faceOf a) (faceOf b)) (max (faceOf a) (faceOf b)) flips) 1 0
-    walk-two a b u v =
-        let j : 2 * length is + p + 1 ≡ 2 * length is + (p + 1) = omega arith in
-        let x : a ≡ getD S p 0 = u ∙ words-side t is flips e p h in
-        let y : b ≡ getD S (p + 1) 0 = v ∙ ap (λ (z : ℕ). getD t z 0) j ∙ words-side t is flips e (p + 1) next-lt in
-        let g : edgesOf is ≡ done ++ ((a ∷ b ∷ []) ∷ groupsOf (pairOf is) (drop (p + 2) S)) =
-        here (p + 2) (sym k) ∙ ap (λ (l : List ℕ). done ++ (l ∷ groupsOf (pairOf is) (drop (p + 2) S))) (two ∙ ap (λ (z : ℕ). z ∷ getD S (p + 1) 0 ∷ []) (sym x) ∙ ap (λ (z : ℕ). a ∷ z ∷ []) (sym y)) in
-        words-flag t is flips e a (omega (arith, side-below is p h)) ∙ flag-two is done (groupsOf (pairOf is) (drop (p + 2) S)) a b g flips

@@ -12,10 +12,6 @@ use Rattle.path.specs.Strokes.{pointAt}
 use Rattle.path.specs.Laid.{flat, putPoint, putPoints, pen, inked}
 use Rattle.path.proofs.Pushes.{Lays, over-sets}
 
-pub length-putPoint : (l : List Float) (i : ℕ) (v : Vector) → length (putPoint l i v) ≡ length l
-unfolding putPoint
-length-putPoint l i v = simp length-set
-
 -- past the end there is nothing to read, and nothing is stored
 pub pointAt-out : (ps : List Float) (i : ℕ) → length ps ≤ i → pointAt ps i ≡ record { x = nan; y = nan; z = nan }
 unfolding pointAt

@@ -51,9 +51,6 @@ number-left (suc (suc n)) s h = let e : suc (suc n) - 2 ≡ n = omega arith in r
 pub meets-stop : (n : ℕ) (w : Walk) → n < 2 → Meets n w n
 meets-stop n w h s = spent-stop (tallyOf n s) w (stops n s h)
 
-pub meets-none : (n : ℕ) (w : Walk) → w ≡ none → Meets n w n
-meets-none n w e s = sym (ap (spent (tallyOf n s)) e ∙ spent-none (tallyOf n s))
-
 pub meets-one : (n : ℕ) (v : Vector) (w : Walk) → 2 ≤ n → w ≡ one v → Meets n w (n - 1)
 meets-one n v w h e s = one-less n s h ∙ spent-one (tallyOf n s) v w e
 

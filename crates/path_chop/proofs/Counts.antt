@@ -34,9 +34,6 @@ cap-cap n m =
     ⊎-elim (λ h. ap (λ (k : ℕ). capped (k + m)) (cap-under n h))
     (λ h. cap-over (capped n + m) (omega (arith, cap-over n (omega arith))) ∙ sym (cap-over (n + m) (omega arith))) (split n tooMany)
 
-pub cap-big : (n r : ℕ) → r ≡ capped n → mostPoints < r → mostPoints < n
-cap-big n r e h = ⊎-elim (λ l. omega (arith, cap-under n l)) (λ l. omega arith) (split n tooMany)
-
 pub cap-small : (n r : ℕ) → r ≡ capped n → r ≤ mostPoints → r ≡ n
 cap-small n r e h = ⊎-elim (λ l. e ∙ cap-under n l) (λ l. absurd (omega (arith, cap-over n (omega arith)))) (split n tooMany)
 

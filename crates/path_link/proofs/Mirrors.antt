@@ -30,9 +30,6 @@ module _ (join : ℕ → ℕ → Bool) (vs : List ℕ) (m : ℕ) (Live : ℕ →
   S x = getD s x 0
 
   module _ (x z : ℕ) (hx : x < length s) (hz : z < length s) (e : valueOf vs s z ≡ valueOf vs s x) where
-    in-run : (A x hx .a ≤ z) × (z < A x hx .b)
-    in-run = let M = A x hx in M .run .only z hz (e ∙ M .run .same x (M .low) (M .high))
-
     bound : (w : ℕ) → A z hz .a ≤ w → w < A z hz .b → (A x hx .a ≤ w) × (w < A x hx .b)
     bound w p q =
         let M = A x hx in

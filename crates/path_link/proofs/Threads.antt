@@ -65,9 +65,6 @@ module _ (s₀ : List ℕ) (n at : ℕ) (R : Ready s₀ n at) where
       pub place-lt : k < n
       place-lt = omega (arith, inside L T O at start (I .l) (I .k) e k f (I .ok), I .size2)
 
-      pub flag-le : f ≤ 1
-      flag-le = I .ok .flag
-
     module _ (s : List ℕ) (e k f : ℕ) (I : Runs s e k f) (i : ℕ) (on : i ≡ e / 2) where
       abbrev S : List ℕ
       S = set (set s (6 * n + i) 0) (2 * n + k) (e + e + f)

@@ -36,14 +36,6 @@ pub words : (modeWord 0 ≡ 1) × (modeWord 1 ≡ 1) × (modeWord 2 ≡ 2) × (m
 unfolding modeWord
 words = (refl, refl, refl, refl)
 
-pub word-none : (n : ℕ) → 4 ≤ n → modeWord n ≡ 0
-unfolding modeWord
-word-none zero h = absurd (omega arith)
-word-none (suc zero) h = absurd (omega arith)
-word-none (suc (suc zero)) h = absurd (omega arith)
-word-none (suc (suc (suc zero))) h = absurd (omega arith)
-word-none (suc (suc (suc (suc n)))) h = refl
-
 pub word-most : (n : ℕ) → modeWord n ≤ 3
 unfolding modeWord
 word-most zero = omega arith

@@ -18,10 +18,6 @@ pub words-size : (m v : ℕ) (ks ns : List ℕ) → length (bytesAll (wordsOf m 
 unfolding headerOf
 words-size m v ks ns = omega (arith, length-bytes (wordsOf m v ks ns), length-append ks ns)
 
-pub sheet-size : (m v : ℕ) (ss : List (List ℕ)) → length (sheetOf m v ss) ≡ sizeOf (length (nonEmpty ss)) (length (joined ss))
-unfolding sheetOf
-sheet-size m v ss = omega (arith, words-size m v (startsFrom 0 (nonEmpty ss)) (joined ss), length-starts 0 (nonEmpty ss))
-
 -- what the counts have been tested for
 pub limits : (vertices strokes points : ℕ) → countsGood vertices strokes points ≡ true → (strokes ≤ mostStrokes) × (points ≤ mostPoints) × (vertices ≤ mostVertices)
 unfolding countsGood
