@@ -24,10 +24,6 @@ unfoldable pub stepsOf : ℕ → Float → Float → Float → List Float
 stepsOf zero l step d = []
 stepsOf (suc n) l step d = let r = d ∷ stepsOf n l step (add binary64 d step) in cond (lt d l) r []
 
--- a length, or the step where no step lies within it: what is cut is the same (`reach-cut`, proofs/Chops)
-abbrev pub reachOf : Float → Float → Float
-reachOf step l = cond (lt step l) l step
-
 -- what a span from a to b gives after a, where v is b from a and l its length: n steps at most, and b
 unfoldable pub cut : ℕ → Float → Vector → Vector → Vector → Float → List Vector
 cut n step a b v l = map (along a v l) (stepsOf n l step step) ++ (b ∷ [])
@@ -50,8 +46,15 @@ chopped n step (a ∷ b ∷ vs) = a ∷ spans n step a (b ∷ vs)
 unfoldable pub choppedBy : ℕ → Float → List Float → List ℕ → List (List Vector)
 choppedBy n step ps ss = map (chopped n step) (strokesOf (pointAt ps) (length ps / 3) ss)
 
+-- what a chop writes
 abbrev pub choppedOf : Float → List Float → List ℕ → List (List Vector)
 choppedOf step ps ss = choppedBy tooMany step ps ss
+
+-- ---- what the counting and the writing go by
+
+-- a length, or the step where no step lies within it: what is cut is the same (`reach-cut`, proofs/Chops)
+abbrev pub reachOf : Float → Float → Float
+reachOf step l = cond (lt step l) l step
 
 -- 1 where a stroke of n points leaves something, 0 where it vanishes
 unfoldable pub keptOf : ℕ → ℕ

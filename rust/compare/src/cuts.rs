@@ -77,6 +77,12 @@ pub const CUTS: &[Cut] = &[
         room: MOST.1,
     },
     Cut {
+        name: "every span a hair longer than a step, fits",
+        strokes: || vec![vec![0.25_f64.next_up(); MOST.1 / 2 - 1]],
+        step: 0.25,
+        room: MOST.1,
+    },
+    Cut {
         name: "no span longer than a step, fits, 196,608 strokes",
         strokes: || vec![vec![0.125]; MOST.0],
         step: 0.25,
