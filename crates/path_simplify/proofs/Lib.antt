@@ -1,5 +1,6 @@
 pub mod Squares
 pub mod Thins
+pub mod SplitTest
 pub mod Notes
 pub mod Totals
 pub mod Calls

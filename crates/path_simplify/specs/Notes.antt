@@ -1,7 +1,7 @@
 -- What is noted of a stroke while it is thinned: how many distances were measured, how many points are kept, and then their places.
 use mathlib.Core.List.{List, _++_, map}
 use Prim.Native.Nat.{ℕ, _+_}
-use lib.ListN.{length, getD, set, take, drop}
+use lib.ListN.{getD, set, take, drop}
 use Rattle.vector.specs.declared.Vector.{Vector}
 use Rattle.path_simplify.specs.Simplify.{Thin}
 

@@ -25,7 +25,8 @@ farFrom at a b best i (suc n) = farFrom at a b (fartherOf best i (segmentDistanc
 unfoldable pub farthest : (ℕ → Vector) → ℕ → ℕ → Far
 farthest at lo hi = farFrom at (at lo) (at hi) (record { at = lo; far = zero64 }) (lo + 1) (hi - (lo + 1))
 
--- strictly above the threshold; what is above it lies past lo, since no threshold is below 0
+-- strictly above the threshold. That it lies past lo is asked too, for a recursion that ends whatever the threshold is; for a threshold
+-- that a call accepts it says nothing more: `splits-is-above` (proofs/SplitTest)
 unfoldable pub splitsAt : Far → ℕ → Float → Bool
 splitsAt f lo t = lt t (f .far) && ltb lo (f .at)
 

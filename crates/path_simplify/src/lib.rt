@@ -25,7 +25,7 @@ ghost use Rattle.path.specs.Laid.{putPoints, pen, inked, out, push, pushAll, jo
 ghost use Rattle.path.specs.Left.{left};
 ghost use Rattle.path_simplify.specs.Simplify.{fartherOf, farthest, splitsAt, splitOf, thin, thinned, simplified, distances, simplifiedOf, placeOf};
 ghost use Rattle.vector.specs.Lengths.{zero64, one64, segmentDistanceOf};
-ghost use Rattle.path_simplify.specs.Squares.{segmentSquareOf, farOf};
+ghost use Rattle.path_simplify.specs.Squares.{segmentSquareOf, farOf, settledOf, Rising};
 ghost use Rattle.path_simplify.specs.Notes.{notesLong, cleared, measured, noted, count, thinAt, plus};
 ghost use Rattle.path_simplify.specs.Call.{said, shortOf, roomFor, thresholdGood, simplifyVerdict, simplifyLeft};
 
@@ -65,6 +65,15 @@ pub struct Progress {
 pub struct Best {
     pub at: usize,
     pub square: f64,
+}
+
+// The last three points of a scan whose squares were above all before them, the latest first. Where the root of the latest is
+// level with an earlier one's, that one is the farthest; it is one of these, since four squares, each below the next, never have
+// one root.
+pub struct Records {
+    pub first: Best,
+    pub second: Best,
+    pub third: Best,
 }
 
 // The square of the distance of p from the segment from v to w: segment_distance before its root, as the source tests it.
@@ -107,18 +116,42 @@ fn segment_square(p: Vector, v: Vector, w: Vector) -> f64
     clamped_square(p, v, w)
 }
 
-// The farther of two, the first where they are level. Squares are compared as their roots would be.
-fn farther(best: Best, i: usize, p: Vector, a: Vector, b: Vector) -> Best
-    ensures { λ r. ⌜ farOf r ≡ fartherOf (farOf best) i (segmentDistanceOf p a b) ⌝ }
+// The farther of two, the first where they are level. No root is worked out: a square that is not the greatest so far has no
+// greater root, and the three greatest are kept until it is known which of them is the farthest.
+fn farther(r: Records, i: usize, p: Vector, a: Vector, b: Vector) -> Records
+    requires { ⌜ Rising r ⌝ }
+    ensures { λ t. ⌜ (farOf (settledOf t) ≡ fartherOf (farOf (settledOf r)) i (segmentDistanceOf p a b)) × Rising t ⌝ }
 {
     let square = segment_square(p, a, b);
-    if root_above(square, best.square) {
-        return Best {
-            at: i,
-            square: square,
+    let first = r.first;
+    let second = r.second;
+    if square > first.square {
+        return Records {
+            first: Best {
+                at: i,
+                square: square,
+            },
+            second: first,
+            third: second,
         };
     }
-    best
+    r
+}
+
+// The farthest of a scan: the first of its records whose root is that of the greatest.
+fn settle(r: Records) -> Best
+    ensures { λ t. ⌜ t ≡ settledOf r ⌝ }
+{
+    let first = r.first;
+    let second = r.second;
+    let third = r.third;
+    if root_above(first.square, second.square) {
+        return first;
+    }
+    if root_above(first.square, third.square) {
+        return second;
+    }
+    third
 }
 
 // The point at place i, which is there: nothing is tested.
@@ -141,16 +174,21 @@ fn find_far(points: &[f64], lo: usize, hi: usize) -> Best
 {
     let a = point_in(points, lo);
     let b = point_in(points, hi);
-    let mut best = Best {
+    let none = Best {
         at: lo,
         square: 0.0,
+    };
+    let mut best = Records {
+        first: none,
+        second: none,
+        third: none,
     };
     let mut i = lo + 1;
     while i < hi {
         best = farther(best, i, point_in(points, i), a, b);
         i += 1;
     }
-    best
+    settle(best)
 }
 
 // Whether the farthest splits the points from lo on: its distance, the root, strictly above the threshold.

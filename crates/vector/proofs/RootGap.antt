@@ -1,4 +1,4 @@
--- Numbers whose patterns are eight apart have roots that are apart.
+-- Numbers whose patterns are three apart have roots that are apart; so of four numbers, each below the next, the first and the last have.
 use mathlib.Core.Path.{_≡_, refl, sym, ap, _∙_, subst}
 use mathlib.Core.Logic.{_⊎_, ⊎-elim}
 use mathlib.Core.Bool.{Bool, true, false, not}
@@ -9,17 +9,18 @@ use native.Mathlib.Omega.{arith}
 use lib.Dec.{T, ltb, lt→ltb, ltb→lt, leb, leb→le}
 use lib.Pow.{pow-pos, pow-add, pow-mono}
 use lib.IntN.{ℤ, pos, negsuc}
-use lib.Ieee.{Float, nan, inf, fin, up, down, binary64, fits, ofBits, toBits, lt, eq}
-use lib.Ieee.Bits.{is-true}
+use lib.Ieee.{Float, nan, inf, fin, up, down, binary64, fits, ofBits, toBits, lt, eq, isNan}
+use lib.Ieee.Bits.{is-true, ofBits-toBits}
 use lib.Ieee.Exact.{HasValue}
 use lib.Ieee.Fits.{up-pos, down-pos}
 use Rattle.vector.specs.Root.{unitsOf, rootBits, rootOf}
 use Rattle.vector.specs.Steps.{at, unitsAt, Normal, NearestUnits}
-use Rattle.vector.proofs.Roots.{lt-or-ge, shift-to, by-even, by-odd, gap}
-use Rattle.vector.proofs.Patterns.{Above, above, is-above, nil, in-patterns, units-bits, units-pos, units-lt}
+use Rattle.vector.proofs.Roots.{lt-or-ge, root-lt, shift-to, by-even, by-odd, gap}
+use Rattle.vector.proofs.Patterns.{Above, above, is-above, nil, of-bits, beyond-no-nan, in-patterns, units-bits, units-pos, units-lt}
 use Rattle.vector.proofs.RootSearch.{at-mono, root-is, no-zero}
 use Rattle.vector.proofs.RootNearest.{root-of, normal-of, digits-of}
-use Rattle.vector.proofs.RootLaws.{rooted, value, value-pos, never-above, zero-below}
+use Rattle.vector.proofs.RootLaws.{rooted, value, value-pos, not-lt, never-above, zero-below}
+use Rattle.vector.proofs.Order.{lt-through, lt-one-way}
 
 -- ---- from a pattern to the next
 
@@ -69,7 +70,7 @@ at-under b = go (b / 2 ^ 52) (b % 2 ^ 52) (omega arith)
     go zero t h = omega arith
     go (suc x) t h = let e : suc x - 1 ≡ x = omega arith in rw e (mul-lt-mul-of-pos-right (omega arith) (pow-pos x))
 
--- ---- a number eight patterns above
+-- ---- a number three patterns above
 module _ (b d e : ℕ) (n : Normal (at b) d e) where
   -- the last of the 53 digits is no more than the step between patterns
   last : 2 ^ e ≤ ulp b * 2 ^ 1024
@@ -84,13 +85,13 @@ module _ (b d e : ℕ) (n : Normal (at b) d e) where
           not-le-of-lt (mul-lt-mul-of-pos-right (at-under b) (pow-pos 1024))
           (le-trans p (le-trans (mul-le-mul-right (2 ^ e) (n .least)) (le-of-eq (sym (n .same)))))
 
-  apart : (k : ℕ) → b + 8 ≤ k → (d + 8) * 2 ^ e ≤ at k * 2 ^ 1024
-  apart k h = sum (at b) d (2 ^ e) (ulp b) (2 ^ 1024) (at k) (n .same) last (le-trans (at-far b 8) (at-mono (b + 8) k h))
+  apart : (k : ℕ) → b + 3 ≤ k → (d + 3) * 2 ^ e ≤ at k * 2 ^ 1024
+  apart k h = sum (at b) d (2 ^ e) (ulp b) (2 ^ 1024) (at k) (n .same) last (le-trans (at-far b 3) (at-mono (b + 3) k h))
     where
-      sum : (a d x u p v : ℕ) → a * p ≡ d * x → x ≤ u * p → a + 8 * u ≤ v → (d + 8) * x ≤ v * p
+      sum : (a d x u p v : ℕ) → a * p ≡ d * x → x ≤ u * p → a + 3 * u ≤ v → (d + 3) * x ≤ v * p
       sum a d x u p v f g w = le-trans (omega (arith, f, g)) (mul-le-mul-right p w)
 
-gap-bits : (b k t : ℕ) → 0 < b → b < 2047 * 2 ^ 52 → b + 8 ≤ k → NearestUnits (at k) (at t) → (r : ℕ) × NearestUnits (at b) (at r) × (at r < at t)
+gap-bits : (b k t : ℕ) → 0 < b → b < 2047 * 2 ^ 52 → b + 3 ≤ k → NearestUnits (at k) (at t) → (r : ℕ) × NearestUnits (at b) (at r) × (at r < at t)
 gap-bits b k t h l f q = go (normal-of b h l)
   where
     go : (d : ℕ) × (e : ℕ) × Normal (at b) d e → (r : ℕ) × NearestUnits (at b) (at r) × (at r < at t)
@@ -108,22 +109,24 @@ gap-bits b k t h l f q = go (normal-of b h l)
         even : e % 2 ≡ 0 → (r : ℕ) × NearestUnits (at b) (at r) × (at r < at t)
         even p =
             let s = digits-of (d * 2 ^ 54) (omega (arith, n .most)) in
+            let l = root-lt (s .0) (3 * 2 ^ 52) (lt-of-le-of-lt (s .2 .not-above) (omega (arith, n .most))) in
             let z : e ≡ 2 * (e / 2) = omega arith in (
               (e / 2 - 1) * 2 ^ 52 + (s .0 + 1) / 2,
               by-even (at b) d e (s .0) n p (s .1) (s .2) .1,
               gap (at b) d (e / 2) (s .0) (n .least) (omega (arith, n .most)) (s .1) (s .2) (omega (arith, n .low)) (omega (arith, n .high)) (n .same ∙ ap (λ (x : ℕ). d * 2 ^ x) z)
-                  (at k) (at t) (subst (λ (x : ℕ). (d + 8) * 2 ^ x ≤ at k * 2 ^ 1024) z (apart b d e n k f)) q,
+                  3 (omega (arith, l)) (omega (arith, l)) (at k) (at t) (subst (λ (x : ℕ). (d + 3) * 2 ^ x ≤ at k * 2 ^ 1024) z (apart b d e n k f)) q,
             )
 
         odd : 0 < e % 2 → (r : ℕ) × NearestUnits (at b) (at r) × (at r < at t)
         odd p =
             let s = digits-of (d * 2 * 2 ^ 54) (omega (arith, n .most)) in
             let z : 1 + 2 * (e / 2) ≡ e = omega arith in
-            let o : d * 2 + 8 ≤ (d + 8) * 2 = omega arith in (
+            let l = root-lt (s .0) (2 ^ 54 - 1) (lt-of-le-of-lt (s .2 .not-above) (omega (arith, n .most))) in
+            let o : d * 2 + 6 ≤ (d + 3) * 2 = omega arith in (
               (e / 2 - 1) * 2 ^ 52 + (s .0 + 1) / 2,
               by-odd (at b) d e (s .0) n (λ g. omega arith) (s .1) (s .2) .1,
               gap (at b) (d * 2) (e / 2) (s .0) (omega (arith, n .least)) (omega (arith, n .most)) (s .1) (s .2) (omega (arith, n .low)) (omega (arith, n .high)) (n .same ∙ sym (shift-to d 1 (2 * (e / 2)) e z))
-                  (at k) (at t) (le-trans (mul-le-mul-right (2 ^ (2 * (e / 2))) o) (le-trans (le-of-eq (shift-to (d + 8) 1 (2 * (e / 2)) e z)) (apart b d e n k f))) q,
+                  6 (omega (arith, l)) (omega (arith, l)) (at k) (at t) (le-trans (mul-le-mul-right (2 ^ (2 * (e / 2))) o) (le-trans (le-of-eq (shift-to (d + 3) 1 (2 * (e / 2)) e z)) (apart b d e n k f))) q,
             )
 
 -- ---- in the order of f64
@@ -144,8 +147,8 @@ is-lt (fin s m e) (fin t n d) a b c h g l =
         (le-of-eq (mul-right-comm (m * up e) (down d) c ∙ ap (λ (x : ℕ). x * down d) (h .1) ∙ mul-right-comm a (down e) (down d)))) in
         not-le-of-lt (mul-lt-mul-of-pos-right (mul-lt-mul-of-pos-right l (down-pos d)) (down-pos e)) p
 
--- positive numbers whose patterns are eight apart
-pub roots-apart : (x y : Float) → T (fits binary64 x) → T (fits binary64 y) → Above x → Above y → toBits binary64 y + 8 ≤ toBits binary64 x → lt (rooted y) (rooted x) ≡ true
+-- positive numbers whose patterns are three apart
+pub roots-apart : (x y : Float) → T (fits binary64 x) → T (fits binary64 y) → Above x → Above y → toBits binary64 y + 3 ≤ toBits binary64 x → lt (rooted y) (rooted x) ≡ true
 roots-apart x y f g (above m e) (above n d) h =
     let i = in-patterns x f (above m e) in
     let j = in-patterns y g (above n d) in
@@ -213,3 +216,53 @@ over (fin false zero d) (fin false m e) p q r = absurd (none (m * up e * down d)
     none : (a : ℕ) → a < 0 * up d * down e → ⊥
     none a g = omega (arith, ap (λ (x : ℕ). x * down e) (zero-mul (up d)), zero-mul (down e))
 over (fin false (suc n) d) (fin false m e) p q r = above n d
+
+-- ---- four numbers, each below the next
+
+-- what is below a number is below all that this number is below
+pub lt-trans : (a b c : Float) → lt a b ≡ true → lt b c ≡ true → lt a c ≡ true
+lt-trans a b c p q = is-true (lt a c) (lt-through a b c (subst T (sym p) tt) (lt-one-way b c (subst T (sym q) tt)) (beyond-no-nan b c q))
+
+-- the value of a positive number by its pattern
+value-of : (x : Float) → T (fits binary64 x) → Above x → HasValue x false (at (toBits binary64 x)) (2 ^ 1074)
+value-of x f a = subst (λ (z : Float). HasValue z false (at (toBits binary64 x)) (2 ^ 1074)) (ofBits-toBits binary64 x f) (of-bits (toBits binary64 x) (in-patterns x f a .1))
+
+bits-climb : (x y : Float) → T (fits binary64 x) → T (fits binary64 y) → Above x → Above y → lt x y ≡ true → toBits binary64 x < toBits binary64 y
+bits-climb x y f g a b h =
+    ⊎-elim (λ l. l)
+    (λ l. absurd (subst T (sym h ∙ not-lt x y _ _ (2 ^ 1074) (pow-pos 1074) (value-of x f a) (value-of y g b) (at-mono (toBits binary64 y) (toBits binary64 x) l)) tt))
+    (lt-or-ge (toBits binary64 x) (toBits binary64 y))
+
+finite-below : (z : Float) (a c : ℕ) → HasValue z false a c → lt z (inf false) ≡ true
+unfolding lt
+finite-below nan a c h = absurd h
+finite-below (inf s) a c h = absurd h
+finite-below (fin s m e) a c h = refl
+
+under-endless : (x : Float) → T (fits binary64 x) → Above x → lt (rooted x) (inf false) ≡ true
+under-endless x f (above m e) = finite-below (rooted x) _ (2 ^ 1074) (value m e f)
+
+never-below : (z : Float) → lt z (inf true) ≡ false
+unfolding lt
+never-below nan = refl
+never-below (inf true) = refl
+never-below (inf false) = refl
+never-below (fin t n d) = refl
+
+-- of four numbers above 0, each below the next, the last has a larger root than the first
+pub roots-climb : (x y z w : Float) → T (fits binary64 x) → T (fits binary64 y) → T (fits binary64 z) → T (fits binary64 w)
+    → lt nil x ≡ true → lt x y ≡ true → lt y z ≡ true → lt z w ≡ true → lt (rooted x) (rooted w) ≡ true
+roots-climb x y z nan fx fy fz fw p q r s = absurd (unfold isNan in beyond-no-nan z nan s)
+roots-climb x y z (inf true) fx fy fz fw p q r s = absurd (subst T (sym s ∙ never-below z) tt)
+roots-climb x y z (inf false) fx fy fz fw p q r s = unfold rootOf in under-endless x fx (is-above x p (lt-trans x z (inf false) (lt-trans x y z q r) s))
+roots-climb x y z (fin t n d) fx fy fz fw p q r s =
+    let w = fin t n d in
+    let e : lt w (inf false) ≡ true = unfold lt in refl in
+    let zw = lt-trans z w (inf false) s e in
+    let yz = lt-trans y z (inf false) r zw in
+    let xy = lt-trans x y (inf false) q yz in
+    let a = is-above x p xy in
+    let b = is-above y (lt-trans nil x y p q) yz in
+    let c = is-above z (lt-trans nil x z p (lt-trans x y z q r)) zw in
+    let d′ = is-above w (lt-trans nil x w p (lt-trans x z w (lt-trans x y z q r) s)) e in
+    roots-apart w x fw fx d′ a (omega (arith, bits-climb x y fx fy a b q, bits-climb y z fy fz b c r, bits-climb z w fz fw c d′ s))

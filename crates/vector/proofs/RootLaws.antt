@@ -84,7 +84,7 @@ module _ (m : ℕ) (e : ℤ) (h : T (fits binary64 (fin false (suc m) e))) where
   value-pos = let o : 0 < at 1 = unfold at in lit< tt in lt-of-lt-of-le o (at-mono 1 (rootBits (suc m * up e * 2 ^ 1074 / down e)) (one-up (suc m * up e * 2 ^ 1074 / down e) (units-pos m e h) (units-lt m e h)))
 
 -- ---- comparing
-not-lt : (x y : Float) (a b c : ℕ) → 0 < c → HasValue x false a c → HasValue y false b c → b ≤ a → lt x y ≡ false
+pub not-lt : (x y : Float) (a b c : ℕ) → 0 < c → HasValue x false a c → HasValue y false b c → b ≤ a → lt x y ≡ false
 unfolding lt
 not-lt nan y a b c k h g l = absurd h
 not-lt (inf s) y a b c k h g l = absurd h

@@ -263,9 +263,9 @@ module _ (N n h s : ℕ) (least : 2 ^ 52 ≤ n) (most : n < 2 ^ 54) (few : s < 2
         },
       )
 
-  -- a number larger by eight in the last of n's digits has a larger root: between the two lies a number of at most 53 digits
-  pub gap : (K y : ℕ) → (n + 8) * 2 ^ (2 * h) ≤ K * 2 ^ 1024 → NearestUnits K y → at ((h - 1) * 2 ^ 52 + (s + 1) / 2) < y
-  gap K y far q = lt-of-not-le (λ (l : y ≤ at ((h - 1) * 2 ^ 52 + (s + 1) / 2)). clash (rw (at-join (h - 1) ((s + 1) / 2) (omega (arith, big)) (omega arith)) at l))
+  -- a number larger by so many of the last of n's digits has a larger root: between the two lies a number of at most 53 digits
+  pub gap : (j : ℕ) → 4 * s + 4 ≤ j * 2 ^ 54 → s + 1 < 2 ^ 54 → (K y : ℕ) → (n + j) * 2 ^ (2 * h) ≤ K * 2 ^ 1024 → NearestUnits K y → at ((h - 1) * 2 ^ 52 + (s + 1) / 2) < y
+  gap j wide short K y far q = lt-of-not-le (λ (l : y ≤ at ((h - 1) * 2 ^ 52 + (s + 1) / 2)). clash (rw (at-join (h - 1) ((s + 1) / 2) (omega (arith, big)) (omega arith)) at l))
     where
       k : ℕ
       k = h - 1
@@ -273,36 +273,38 @@ module _ (N n h s : ℕ) (least : 2 ^ 52 ≤ n) (most : n < 2 ^ 54) (few : s < 2
       c : ℕ
       c = (s + 1) / 2
 
-      m : ℕ
-      m = c / 2 + 1
+      -- the next number of at most 53 digits
+      next : (m : ℕ) × (x : ℕ) × (m < 2 ^ 53) × (m * 2 ^ x ≡ (c + 1) * 2 ^ k)
+      next =
+          ⊎-elim (λ (g : c + 1 < 2 ^ 53). (c + 1, k, g, refl))
+          (λ (g : 2 ^ 53 ≤ c + 1).
+          let e : 2 ^ 52 * 2 ≡ c + 1 = omega arith in
+          (2 ^ 52, 1 + k, lit< tt, sym (shift-to (2 ^ 52) 1 k (1 + k) refl) ∙ ap (λ (x : ℕ). x * 2 ^ k) e)) (lt-or-ge (c + 1) (2 ^ 53))
 
-      next : m * 2 * 2 ^ k ≡ m * 2 ^ (1 + k)
-      next = shift-to m 1 k (1 + k) refl
-
-      spread : (n + 8) * 2 ^ (2 * h) * 2 ^ 52 ≡ (n + 8) * 2 ^ 54 * (2 ^ k * 2 ^ k)
+      spread : (n + j) * 2 ^ (2 * h) * 2 ^ 52 ≡ (n + j) * 2 ^ 54 * (2 ^ k * 2 ^ k)
       spread =
-          shift-to (n + 8) (2 * h) 52 (54 + k + k) (omega arith)
-          ∙ sym (shift-to (n + 8) (54 + k) k (54 + k + k) refl)
-          ∙ ap (λ (x : ℕ). x * 2 ^ k) (sym (shift-to (n + 8) 54 k (54 + k) refl))
-          ∙ mul-assoc ((n + 8) * 2 ^ 54) (2 ^ k) (2 ^ k)
+          shift-to (n + j) (2 * h) 52 (54 + k + k) (omega arith)
+          ∙ sym (shift-to (n + j) (54 + k) k (54 + k + k) refl)
+          ∙ ap (λ (x : ℕ). x * 2 ^ k) (sym (shift-to (n + j) 54 k (54 + k) refl))
+          ∙ mul-assoc ((n + j) * 2 ^ 54) (2 ^ k) (2 ^ k)
 
-      square : (s + 3) * (s + 3) ≤ (n + 8) * 2 ^ 54
-      square = omega (arith, r .not-above)
+      square : (s + 2) * (s + 2) ≤ (n + j) * 2 ^ 54
+      square = omega (arith, r .not-above, wide)
 
       clash : y ≤ c * 2 ^ k → ⊥
       clash l =
-          let below : c < m * 2 = omega arith in
-          let within : c + m * 2 ≤ s + 3 = omega arith in
-          let t : y < m * 2 ^ (1 + k) = lt-of-le-of-lt l (lt-of-lt-of-le (mul-lt-mul-of-pos-right below (pow-pos k)) (le-of-eq next)) in
-          let v : y + m * 2 ^ (1 + k) ≤ (s + 3) * 2 ^ k = sum y (m * 2 ^ (1 + k)) (2 ^ k) l (sym next) within in
-          not-le-of-lt (q .above m (1 + k) (omega arith) t)
+          let within : c + (c + 1) ≤ s + 2 = omega arith in
+          let less : c < c + 1 = omega arith in
+          let t : y < next .0 * 2 ^ (next .1) = lt-of-le-of-lt l (lt-of-lt-of-le (mul-lt-mul-of-pos-right less (pow-pos k)) (le-of-eq (sym (next .3)))) in
+          let v : y + next .0 * 2 ^ (next .1) ≤ (s + 2) * 2 ^ k = sum y (next .0 * 2 ^ (next .1)) (2 ^ k) l (next .3) within in
+          not-le-of-lt (q .above (next .0) (next .1) (next .2) t)
           (le-trans (mul-le-mul v v)
-          (le-trans (le-of-eq (mul-mul-mul-comm (s + 3) (2 ^ k) (s + 3) (2 ^ k)))
+          (le-trans (le-of-eq (mul-mul-mul-comm (s + 2) (2 ^ k) (s + 2) (2 ^ k)))
           (le-trans (mul-le-mul-right (2 ^ k * 2 ^ k) square)
           (le-trans (le-of-eq (sym spread))
           (le-trans (mul-le-mul-right (2 ^ 52) far) (le-of-eq (shift-to K 1024 52 1076 refl)))))))
         where
-          sum : (a b p : ℕ) → a ≤ c * p → b ≡ m * 2 * p → c + m * 2 ≤ s + 3 → a + b ≤ (s + 3) * p
+          sum : (a b p : ℕ) → a ≤ c * p → b ≡ (c + 1) * p → c + (c + 1) ≤ s + 2 → a + b ≤ (s + 2) * p
           sum a b p f g w = le-trans (omega (arith, f, g)) (mul-le-mul-right p w)
 
 -- the two ways of `root_bits`: an even exponent, and an odd one, which takes one digit more

@@ -193,14 +193,14 @@ pub fn root_or_nan(x: f64) -> f64
     }
 }
 
-// Whether x is so far above y, by eight f64 or more, that its root must be above that of y.
+// Whether x is so far above y, by three f64 or more, that its root must be above that of y.
 fn far_above(x: f64, y: f64) -> bool
     requires { ⌜ lt y x ≡ true ⌝ }
     ensures { λ r. ⌜ (r ≡ true → lt (orNan (rootOf y)) (orNan (rootOf x)) ≡ true) ⌝ }
 {
     if y > 0.0 {
         if 1.0 / 0.0 > x {
-            return f64::to_bits(y) + 8 <= f64::to_bits(x);
+            return f64::to_bits(y) + 3 <= f64::to_bits(x);
         }
         return false;
     }

@@ -25,7 +25,7 @@ fn main() {
     }
     println!("\n## Inputs made to hurt\n");
     println!(
-        "As many edges as the torus has for a splice, as many corners for a weld, as many faces for a drawing; growth as above.\n"
+        "As many edges as the torus has for a splice, as many vertices to simplify (best of 5 runs), as many corners for a weld, as many faces for a drawing; growth as above.\n"
     );
     println!("| call | port, ms | original, ms | port / original | growth |");
     println!("|---|---|---|---|---|");
@@ -126,6 +126,31 @@ mod calls {
             name: "splice, one edge over and over",
             port: |mesh, runs| splice_of(&equal(mesh), runs),
             original: |mesh, runs| splice_exact_of(&equal(mesh), runs),
+        },
+        Call {
+            name: "simplify, every square a few f64 above the last",
+            port: |mesh, runs| simplify_of(&spokes(mesh, 4096, few_above), runs),
+            original: |mesh, runs| path_simplify_of(&spokes(mesh, 4096, few_above), runs),
+        },
+        Call {
+            name: "simplify, squares up and down by a few f64",
+            port: |mesh, runs| simplify_of(&spokes(mesh, 4096, |i| few_above(i ^ 1)), runs),
+            original: |mesh, runs| path_simplify_of(&spokes(mesh, 4096, |i| few_above(i ^ 1)), runs),
+        },
+        Call {
+            name: "simplify, all squares equal",
+            port: |mesh, runs| simplify_of(&spokes(mesh, 4096, |_| 1.25), runs),
+            original: |mesh, runs| path_simplify_of(&spokes(mesh, 4096, |_| 1.25), runs),
+        },
+        Call {
+            name: "simplify, subnormal squares, each one above the last",
+            port: |mesh, runs| simplify_of(&spokes(mesh, 4096, subnormal), runs),
+            original: |mesh, runs| path_simplify_of(&spokes(mesh, 4096, subnormal), runs),
+        },
+        Call {
+            name: "simplify, strokes of four points, squares a few f64 apart",
+            port: |mesh, runs| simplify_of(&spokes(mesh, 4, few_above), runs),
+            original: |mesh, runs| path_simplify_of(&spokes(mesh, 4, few_above), runs),
         },
         Call {
             name: "weld, all corners in one cell",
@@ -475,6 +500,48 @@ mod calls {
         let paths = strokes(mesh, 4096);
         best(runs, || {
             black_box(paths.simplify(0.01));
+        })
+    }
+
+    /// As many points as the mesh has vertices, in strokes of so many: from the first point each of the others lies along an axis,
+    /// this way or that, so that its distance from the span to any other is its length, given by a rule on its number.
+    fn spokes(mesh: &Mesh, size: usize, length: impl Fn(u64) -> f64) -> Paths<Vector> {
+        let point = |i: usize| {
+            let mut p = [0.0; 3];
+            p[i / 2 % 3] = length(i as u64) * if i == 0 { 0.0 } else { 1.0 - 2.0 * (i % 2) as f64 };
+            Vector::new(p[0], p[1], p[2])
+        };
+        let mut paths = Paths::new();
+        (0..mesh.vertices.len() / size).for_each(|_| paths.new_path().extend((0..size).map(point)));
+        paths
+    }
+
+    /// The squares of these lie one or two f64 apart, and their roots one.
+    fn few_above(i: u64) -> f64 {
+        f64::from_bits(1.5f64.to_bits() + i)
+    }
+
+    /// The squares of these lie one f64 apart.
+    fn subnormal(i: u64) -> f64 {
+        (i as f64).sqrt() * 2f64.powi(-537)
+    }
+
+    fn simplify_of(paths: &Paths<Vector>, runs: usize) -> f64 {
+        let (mut points, mut starts) = (Vec::new(), Vec::new());
+        for path in paths.iter_paths() {
+            starts.push((points.len() / 3) as u32);
+            points.extend(path.iter().flat_map(|v| [v.x, v.y, v.z]));
+        }
+        let (mut out_points, mut out_starts) = (points.clone(), starts.clone());
+        best(runs.min(5), || {
+            lent::simplify(&points, &starts, 0.0, &mut out_points, &mut out_starts).unwrap();
+            black_box((&mut out_points, &mut out_starts));
+        })
+    }
+
+    fn path_simplify_of(paths: &Paths<Vector>, runs: usize) -> f64 {
+        best(runs.min(5), || {
+            black_box(paths.simplify(0.0));
         })
     }
 

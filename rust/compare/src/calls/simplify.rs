@@ -19,11 +19,38 @@ pub fn make(random: &mut Random) -> Input {
     let count = random.below(12);
     let points = coordinates(random, count);
     let starts = table(random, points.len() / 3);
+    on(random, points, starts)
+}
+
+/// The same on one stroke whose distances are level or next to it.
+fn make_near(random: &mut Random) -> Input {
+    let count = random.below(40);
+    let points = near(random, count);
+    on(random, points, vec![0])
+}
+
+/// A random input on these strokes.
+fn on(random: &mut Random, points: Vec<f64>, starts: Vec<u32>) -> Input {
     let thresholds = [0.0, 0.25, 0.5, 1.0, 2.0, f64::INFINITY, -0.0, -1.0, -1e-300, f64::NAN];
     let pick = if random.once_in(4) { random.below(thresholds.len()) } else { random.below(6) };
     let lengths = [0, room(random, points.len() / 3) * 3, room(random, starts.len())];
     let lent = dirty(random, lengths, any_pattern);
     Input { points, starts, threshold: thresholds[pick], lent }
+}
+
+/// Points along the axes from the first, this way and that, whose squared lengths lie a few f64 apart: some have one root.
+fn near(random: &mut Random, points: usize) -> Vec<f64> {
+    let scale = random.one_of(&[1.0, 1.5, 1.4142, 2.0f64.powi(-537), 3e-162]) * (1.0 + random.unit());
+    let mut list = vec![0.0; points * 3];
+    for (i, point) in list.chunks_exact_mut(3).enumerate().skip(1) {
+        let length = f64::from_bits(scale.to_bits() + random.below(6) as u64);
+        point[random.below(3)] = if random.once_in(2) { length } else { -length };
+        // a second coordinate whose square is some last digits of the first's
+        if random.once_in(3) {
+            point[i % 3] += scale * 2f64.powi(-26) * random.below(4) as f64;
+        }
+    }
+    list
 }
 
 /// What the rules and the original say that the call leaves. The count of distances is that of the rule: each call on
@@ -73,5 +100,6 @@ fn port(input: &Input) -> Left<u64> {
 
 /// Runs the port beside the original.
 pub fn run(count: u64, seed: u64) -> Seen {
-    super::run(std::iter::empty(), make, judged, port, (count, seed))
+    let any = |random: &mut Random| if random.once_in(4) { make_near(random) } else { make(random) };
+    super::run(std::iter::empty(), any, judged, port, (count, seed))
 }

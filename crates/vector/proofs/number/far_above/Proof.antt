@@ -1,4 +1,4 @@
--- `far_above` meets its contract: eight patterns are enough for the roots to be apart.
+-- `far_above` meets its contract: three patterns are enough for the roots to be apart.
 use mathlib.Core.Path.{_≡_, sym, subst}
 use Prim.Native.Nat.{_+_}
 use native.Mathlib.Omega.{arith}
@@ -35,7 +35,7 @@ float-to-bits-result-2 c = no-nan (c .before .before .args .x) (high c)
 returns : tie.Need-returns
 returns c = λ t.
     let a = c .before .before .args in
-    roots-apart (a .x) (a .y) (held (c .before .before)) (held-y (c .before .before)) (high c) (low c) (leb→le (toBits binary64 (a .y) + 8) (toBits binary64 (a .x)) (subst T (sym t) tt))
+    roots-apart (a .x) (a .y) (held (c .before .before)) (held-y (c .before .before)) (high c) (low c) (leb→le (toBits binary64 (a .y) + 3) (toBits binary64 (a .x)) (subst T (sym t) tt))
 
 returns-2 : tie.Need-returns-2
 returns-2 c = λ t. absurd (subst T (sym t) tt)
