@@ -86,7 +86,15 @@ not-below-itself x = go (lt x x) refl
     go false e = e
     go true e = is-false (lt x x) (lt-one-way x x (subst T (sym e) tt))
 
--- a reach by the square of the length
+-- by a test whether a step lies within it
+module _ (step l : Float) {b : Bool} (e : b ≡ lt step l) where
+  pub reach-long : {r : Float} → b ≡ true → r ≡ l → r ≡ reachOf step l
+  reach-long t h = rw (sym e ∙ t) h
+
+  pub reach-short : b ≡ false → step ≡ reachOf step l
+  reach-short t = rw (sym e ∙ t)
+
+-- by the square of the length
 pub reach-is : (step s r : Float) (v : Vector) → s ≡ lengthSquaredOf v → r ≡ reachOf step (orNan (rootOf s)) → r ≡ reachOf step (lengthOf v)
 reach-is step s r v e f = f ∙ ap (λ (z : Float). reachOf step (orNan (rootOf z))) e
 

@@ -1,6 +1,6 @@
 -- `reach` meets its contract.
 use borrow.Author.Needs.{needs}
-use mathlib.Core.Path.{sym, _∙_}
+use Rattle.path_chop.proofs.Chops.{reach-long, reach-short}
 use Rattle.path_chop.proofs.reach.Statement.{statement}
 use Rattle.path_chop.proofs.reach.Tie as tie
 
@@ -11,10 +11,10 @@ root-or-nan-requires : tie.Need-root-or-nan-requires
 root-or-nan-requires c κs = search needs
 
 returns : tie.Need-returns
-returns c = rw (sym (c .before .before .root-exceeds .ensures) ∙ c .before .if1 .taken) (c .root-or-nan .ensures)
+returns c = reach-long (c .before .before .before .args .step) _ (c .before .before .root-exceeds .ensures) (c .before .if1 .taken) (c .root-or-nan .ensures)
 
 returns-2 : tie.Need-returns-2
-returns-2 c = rw (sym (c .before .root-exceeds .ensures) ∙ c .if1 .left)
+returns-2 c = reach-short (c .before .before .args .step) _ (c .before .root-exceeds .ensures) (c .if1 .left)
 
 pub reach-spec : {M : Type 1} → statement M
 reach-spec = tie.close (tie.spec root-exceeds-requires root-or-nan-requires returns returns-2)
