@@ -1,6 +1,6 @@
 -- The coarse cells in which the three cells about one lie, one after the other. Assumes nothing.
 use Rattle.path.specs.Strokes.{pointAt}
-use mathlib.Core.Path.{_≡_, refl, sym, ap, _∙_, subst}
+use mathlib.Core.Path.{_≡_, refl}
 use mathlib.Core.Bool.{Bool, true, false}
 use mathlib.Core.List.{List}
 use Prim.Native.Nat.{ℕ, _+_, _-_, _/_, _≤_, _<_}

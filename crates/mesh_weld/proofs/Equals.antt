@@ -1,15 +1,15 @@
 -- Equal coordinates lie in one cell, -0 and 0 too. Assumes nothing.
-use mathlib.Core.Path.{_≡_, refl, sym, ap, _∙_, subst}
-use mathlib.Core.Bool.{Bool, true, false, cond, _&&_, _||_, Bool·beq, true≢false}
-use Prim.Native.Nat.{ℕ, zero, suc, _+_, _-_, _*_, _/_, _^_, _≤_, _<_, zero-le}
+use mathlib.Core.Path.{_≡_, refl, sym, ap, _∙_}
+use mathlib.Core.Bool.{Bool, true, false, _&&_, _||_, Bool·beq, true≢false}
+use Prim.Native.Nat.{ℕ, zero, suc, _+_, _-_, _*_, _/_, _^_, _<_}
 use native.Mathlib.Omega.{arith}
 use native.Mathlib.Nat.{mul-comm, mul-assoc, mul-right-comm, mul-mul-mul-comm, mul-pos}
 use lib.Dec.{eqb}
 use lib.Pow.{pow-pos}
 use lib.IntN.{ℤ, pos, negsuc}
-use lib.Ieee.{Float, nan, inf, fin, Format, binary64, prec, low, up, down, unlike, level, span, climb, size, odd, units, round, div, eq, ofFields, ofBits}
+use lib.Ieee.{Float, nan, inf, fin, Format, binary64, prec, low, up, down, unlike, span, climb, size, odd, units, round, div, eq, ofFields, ofBits}
 use lib.Ieee.Fits.{down-pos, core, round-is}
-use lib.Ieee.Nearest.{closest, closest-same, div-same}
+use lib.Ieee.Nearest.{closest-same, div-same}
 use borrow.Author.Tests.{eqb-true, le-leb}
 use Rattle.vector.specs.declared.Vector.{Vector}
 use Rattle.vector.specs.Floor.{floorOf}

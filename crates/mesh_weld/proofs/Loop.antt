@@ -1,24 +1,24 @@
 -- The loop over the corners. Assumes nothing.
 use Rattle.path.specs.Strokes.{pointAt}
 use Rattle.path.specs.Laid.{putPoint}
-use mathlib.Core.Path.{_≡_, refl, sym, ap, _∙_, subst}
-use mathlib.Core.Bool.{Bool, true, false, cond, _&&_}
+use mathlib.Core.Path.{_≡_, refl, sym, ap, _∙_}
+use mathlib.Core.Bool.{_&&_}
 use mathlib.Core.List.{List, [], _∷_, _++_}
-use Prim.Native.Nat.{ℕ, zero, suc, _+_, _-_, _*_, _/_, _^_, _≤_, _<_}
+use Prim.Native.Nat.{ℕ, zero, suc, _+_, _*_, _/_, _≤_, _<_}
 use native.Mathlib.Omega.{arith}
 use native.Mathlib.Numerals.{add-one}
 use native.Mathlib.Nat.{add-zero}
-use lib.ListN.{length, getD, set, drop, take, length-set, length-append, replicate, length-replicate, getD-replicate, List·getD-append, drop-of-length-le}
-use lib.Seq.{sets, sets-eq, length-sets, drop-cons}
+use lib.ListN.{length, getD, set, drop, length-append, replicate, List·getD-append}
+use lib.Seq.{sets, sets-eq}
 use Rattle.mesh_weld.specs.Call.{Laid}
-use lib.IntN.{ℤ, pos, negsuc, sucℤ, predℤ}
+use lib.IntN.{ℤ, sucℤ, predℤ}
 use lib.Ieee.{Float, nan}
 use Rattle.vector.specs.declared.Vector.{Vector}
 use Rattle.mesh_weld.specs.declared.Found.{Found}
 use Rattle.mesh_weld.specs.declared.Found.the-variants.{At, Nothing}
-use Rattle.mesh_weld.specs.Weld.{cell, inCell, near, orElse, oldest, findIn, three, find, Welded, joinAs, join, weldTo, weldOf}
-use Rattle.mesh_weld.specs.Table.{coarseAt, Table, Ready, grown, numberOf, moreOf, Placed}
-use Rattle.mesh_weld.proofs.Finds.{oldest-cong, find-below}
+use Rattle.mesh_weld.specs.Weld.{cell, inCell, near, findIn, three, find, Welded, joinAs, join, weldTo, weldOf}
+use Rattle.mesh_weld.specs.Table.{coarseAt, Table, grown, numberOf, moreOf, Placed}
+use Rattle.mesh_weld.proofs.Finds.{oldest-cong}
 
 -- a search reads no more than the k vertices
 three-cong : (f g : ℤ → Found) (z : ℤ) → ((a : ℤ) → f a ≡ g a) → three f z ≡ three g z

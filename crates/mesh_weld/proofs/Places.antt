@@ -1,23 +1,19 @@
 -- One corner: what stands where in the flat lists. Assumes nothing.
 use Rattle.path.specs.Strokes.{pointAt}
 use Rattle.path.specs.Laid.{putPoint}
-use mathlib.Core.Path.{_≡_, refl, sym, ap, _∙_, subst}
-use mathlib.Core.Bool.{Bool, true, false, cond}
-use mathlib.Core.List.{List, [], _∷_, _++_}
-use Prim.Native.Nat.{ℕ, zero, suc, _+_, _-_, _*_, _/_, _^_, _≤_, _<_}
+use mathlib.Core.Path.{_≡_, sym, _∙_, subst}
+use mathlib.Core.List.{List}
+use Prim.Native.Nat.{ℕ, _+_, _*_, _<_}
 use native.Mathlib.Omega.{arith}
-use native.Mathlib.Numerals.{lt-of-le-of-ne}
-use lib.ListN.{length, getD, set, length-set, replicate, length-replicate, getD-replicate}
-use lib.Seq.{getD-set-same, getD-set-other, ext-getD}
-use lib.Dec.{eqb}
-use borrow.Author.Tests.{eqb-true, eqb-false}
+use lib.ListN.{length, getD, set, length-set}
+use lib.Seq.{getD-set-same, getD-set-other}
 use lib.Ieee.{Float, nan}
 use Rattle.vector.specs.declared.Vector.{Vector}
 use Rattle.mesh_weld.specs.declared.Cube.{Cube}
 use Rattle.mesh_weld.specs.declared.Found.{Found}
 use Rattle.mesh_weld.specs.declared.Found.the-variants.{At, Nothing}
 use Rattle.mesh_weld.specs.Weld.{find}
-use Rattle.mesh_weld.specs.Table.{cubeOf, coarseOf, coarseAt, Table, Hung, Ready, grown, numberOf, moreOf, Placed}
+use Rattle.mesh_weld.specs.Table.{cubeOf, coarseOf, coarseAt, Hung, Ready, Placed}
 use Rattle.mesh_weld.proofs.Trees.{table-more}
 
 module _ (vs : List Float) (k : ℕ) (p : Vector) (h : k * 3 + 2 < length vs) where

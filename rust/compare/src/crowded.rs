@@ -62,17 +62,15 @@ pub fn one_bucket(count: usize, low: u32) -> Vec<Point> {
 
 /// A corner of a coarse cell that shares a bucket of `buckets` with `home`, and the first `bits` bits of its way.
 fn beside(random: &mut Random, home: Cell, buckets: usize, bits: usize) -> Point {
-    let bucket = |cell: Cell| hash(cell) as usize * buckets >> 32;
+    let bucket = |cell: Cell| (hash(cell) as usize * buckets) >> 32;
     let kept = [bits + 2, bits + 1, bits].map(|b| (1 << (b / 3)) - 1);
     loop {
         let cell = [0, 1, 2].map(|a| {
             let any = ZERO - FAR + random.bits() % (2 * FAR);
             any & !kept[a] | home[a] & kept[a]
         });
-        if bucket(cell) == bucket(home) {
-            if let Some(p) = within(cell) {
-                return p;
-            }
+        if let Some(p) = within(cell).filter(|_| bucket(cell) == bucket(home)) {
+            return p;
         }
     }
 }
