@@ -13,7 +13,7 @@ use Rattle.refusal.specs.declared.Verdict.the-variants.{Accepted, Refused}
 use Rattle.refusal.proofs.Unique.{never-both, same-values}
 use Rattle.vector.specs.declared.Vector.{Vector}
 use Rattle.vector.specs.declared.matrix.Matrix.{Matrix}
-use Rattle.path.specs.Strokes.{goodStarts, pointAt}
+use Rattle.path.specs.Strokes.{goodStarts, pointAt, strokesOf}
 use Rattle.path.specs.Laid.{joined, nonEmpty}
 use Rattle.path.specs.Left.{Left, left, laid, leftBy}
 use Rattle.path.specs.Tests.{shapedOf}
