@@ -35,28 +35,28 @@ module _ (f : ℕ → ℕ) (k first : ℕ) (s : ℕ → Type 0) (w : ℕ → ℕ
   pub passed-all : (n r : ℕ) → Least (Passed s w n) f k first r → ((i : ℕ) → s i → w i < n) → Least s f k first r
   passed-all n r a g = record { below = a .below; all = λ i l h. a .all i l (record { has = h; before = g i h }); to = a .to }
 
-pub from : (x w : ℕ) → Beside x w → (x - 1) / 4 ≤ w / 4
+pub from : (x w : ℕ) → Beside x w → (x - 1) / 3 ≤ w / 3
 from x w b = omega (arith, b .low)
 
-pub until : (x w n : ℕ) → Beside x w → (x + 1) / 4 < n → w / 4 < n
+pub until : (x w n : ℕ) → Beside x w → (x + 1) / 3 < n → w / 3 < n
 until x w n b l = omega (arith, b .high)
 
 module _ (vs : List Float) (c : Cube) where
   abbrev pub coarse-x : ℕ → ℕ
-  coarse-x i = key (pointAt vs i .x) / 4
+  coarse-x i = key (pointAt vs i .x) / 3
 
   abbrev pub coarse-y : ℕ → ℕ
-  coarse-y i = key (pointAt vs i .y) / 4
+  coarse-y i = key (pointAt vs i .y) / 3
 
   abbrev pub coarse-z : ℕ → ℕ
-  coarse-z i = key (pointAt vs i .z) / 4
+  coarse-z i = key (pointAt vs i .z) / 3
 
-  pub in-coarse : (x y z i : ℕ) → InColumn vs c x y i → key (pointAt vs i .z) / 4 ≡ z → InCoarse vs (cube x y z) i
+  pub in-coarse : (x y z i : ℕ) → InColumn vs c x y i → key (pointAt vs i .z) / 3 ≡ z → InCoarse vs (cube x y z) i
   unfolding coarseAt coarseOf cubeOf
   in-coarse x y z i h g = record { is = rw (h .x, h .y, g) }
 
-  pub in-column : (x y i : ℕ) → InLayer vs c x i → key (pointAt vs i .y) / 4 ≡ y → InColumn vs c x y i
+  pub in-column : (x y i : ℕ) → InLayer vs c x i → key (pointAt vs i .y) / 3 ≡ y → InColumn vs c x y i
   in-column x y i h e = record { x = h .x; y = e; z = h .z }
 
-  pub in-layer : (x i : ℕ) → About vs c i → key (pointAt vs i .x) / 4 ≡ x → InLayer vs c x i
+  pub in-layer : (x i : ℕ) → About vs c i → key (pointAt vs i .x) / 3 ≡ x → InLayer vs c x i
   in-layer x i h e = record { x = e; y = h .y; z = h .z }

@@ -38,9 +38,9 @@ pub record Counted (c : Cube) : Type 0 where
   pub z-low : 0 < c .z
   pub z-high : c .z < 2 ^ 55
 
--- the coarse cell, four cells wide, that a cell lies in
+-- the coarse cell, three cells wide, that a cell lies in
 unfoldable pub coarseOf : Cube → Cube
-coarseOf c = cube (c .x / 4) (c .y / 4) (c .z / 4)
+coarseOf c = cube (c .x / 3) (c .y / 3) (c .z / 3)
 
 unfoldable pub coarseAt : List Float → ℕ → Cube
 coarseAt vs i = coarseOf (cubeOf (pointAt vs i))
@@ -128,12 +128,12 @@ pub record Beside (x w : ℕ) : Type 0 where
   pub high : w ≤ x + 1
 
 pub record InColumn (vs : List Float) (c : Cube) (a b i : ℕ) : Type 0 where
-  pub x : key (pointAt vs i .x) / 4 ≡ a
-  pub y : key (pointAt vs i .y) / 4 ≡ b
+  pub x : key (pointAt vs i .x) / 3 ≡ a
+  pub y : key (pointAt vs i .y) / 3 ≡ b
   pub z : Beside (c .z) (key (pointAt vs i .z))
 
 pub record InLayer (vs : List Float) (c : Cube) (a i : ℕ) : Type 0 where
-  pub x : key (pointAt vs i .x) / 4 ≡ a
+  pub x : key (pointAt vs i .x) / 3 ≡ a
   pub y : Beside (c .y) (key (pointAt vs i .y))
   pub z : Beside (c .z) (key (pointAt vs i .z))
 

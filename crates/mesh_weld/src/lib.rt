@@ -78,14 +78,14 @@ fn folded(c: u64) -> u64
     (c % 4294967296 + c / 4294967296) % 4294967296
 }
 
-// The coarse cell, four cells wide, that a cell lies in.
+// The coarse cell, three cells wide, that a cell lies in.
 fn coarse_of(c: Cube) -> Cube
     ensures { λ r. ⌜ r ≡ coarseOf c ⌝ }
 {
     Cube {
-        x: c.x / 4,
-        y: c.y / 4,
-        z: c.z / 4,
+        x: c.x / 3,
+        y: c.y / 3,
+        z: c.z / 3,
     }
 }
 
@@ -220,8 +220,8 @@ fn find_z(
     ensures { λ r. ⌜ Least (InColumn (now (vertices .entry)) c x y) (scoreAt (now (vertices .entry)) p c) (g .count) first r ⌝ }
 {
     let mut r = first;
-    let mut z = (c.z - 1) / 4;
-    while z <= (c.z + 1) / 4 {
+    let mut z = (c.z - 1) / 3;
+    while z <= (c.z + 1) / 3 {
         r = look(vertices, scratch, g, p, c, Cube { x: x, y: y, z: z }, r);
         z += 1;
     }
@@ -243,8 +243,8 @@ fn find_y(
     ensures { λ r. ⌜ Least (InLayer (now (vertices .entry)) c x) (scoreAt (now (vertices .entry)) p c) (g .count) first r ⌝ }
 {
     let mut r = first;
-    let mut y = (c.y - 1) / 4;
-    while y <= (c.y + 1) / 4 {
+    let mut y = (c.y - 1) / 3;
+    while y <= (c.y + 1) / 3 {
         r = find_z(vertices, scratch, g, p, c, x, y, r);
         y += 1;
     }
@@ -258,8 +258,8 @@ fn find_x(vertices: &[f64], scratch: &[u32], g: VertexMerger, p: Vector, c: Cube
     ensures { λ r. ⌜ Least (About (now (vertices .entry)) c) (scoreAt (now (vertices .entry)) p c) (g .count) first r ⌝ }
 {
     let mut r = first;
-    let mut x = (c.x - 1) / 4;
-    while x <= (c.x + 1) / 4 {
+    let mut x = (c.x - 1) / 3;
+    while x <= (c.x + 1) / 3 {
         r = find_y(vertices, scratch, g, p, c, x, r);
         x += 1;
     }

@@ -7,14 +7,17 @@ type Point = [f64; 3];
 type Cell = [u64; 3];
 
 const SIDE: f64 = 1e-6;
-/// The coarse cell of 0, and how far from it the cells of a coordinate are taken, of some 262,000,000,000.
-const ZERO: u64 = 1 << 52;
-const FAR: u64 = 200_000_000_000;
+/// How many cells wide a coarse cell is, and the number of the cell that begins at 0.
+const WIDE: u64 = 3;
+const ZERO: u64 = 1 << 54;
+/// The coarse cell of 0, and how far from it the cells of a coordinate are taken, of some 349,000,000,000.
+const HOME: u64 = ZERO / WIDE;
+const FAR: u64 = 300_000_000_000;
 const PRIME: u64 = 4_294_967_291;
 const TIMES: [u64; 3] = [625_341_585, 461_845_907, 668_265_263];
 
 fn coarse(p: Point) -> Cell {
-    p.map(|x| ((x / SIDE).floor() as i64 + (1 << 54)) as u64 / 4)
+    p.map(|x| ((x / SIDE).floor() as i64 + ZERO as i64) as u64 / WIDE)
 }
 
 fn folded(c: u64) -> u64 {
@@ -25,9 +28,14 @@ fn hash([x, y, z]: Cell) -> u64 {
     (folded(x) * TIMES[0] + folded(y) * TIMES[1] + folded(z) * TIMES[2]) % PRIME
 }
 
+/// Where a coarse cell begins.
+fn from(cell: u64) -> f64 {
+    (cell * WIDE).wrapping_sub(ZERO) as i64 as f64 * SIDE
+}
+
 /// A point in the midst of a coarse cell, where a coordinate can lie so.
 fn within(cell: Cell) -> Option<Point> {
-    let p = cell.map(|c| (c.wrapping_sub(ZERO) as i64 as f64 * 4.0 + 1.5) * SIDE);
+    let p = cell.map(|c| from(c) + 1.5 * SIDE);
     (coarse(p) == cell && p.iter().all(|x| x.abs() <= 1048576.0)).then_some(p)
 }
 
@@ -45,10 +53,11 @@ fn power(base: u64, n: u64) -> u64 {
 pub fn in_first_bucket(random: &mut Random, low: u32) -> Point {
     let share = power(TIMES[2], PRIME - 2);
     loop {
-        let [x, y] = [(); 2].map(|_| ZERO + (random.below(FAR as usize) as u64 >> low << low));
+        let [x, y] = [(); 2].map(|_| (HOME + random.below(FAR as usize) as u64) >> low << low);
         let left = PRIME - hash([x, y, 0]);
         let z = (left as u128 * share as u128 % PRIME as u128) as u64;
-        let cell = [x, y, ZERO + (z.wrapping_sub(1 << 20) & 0xffff_ffff)];
+        let high = HOME >> 32;
+        let cell = [x, y, (high << 32) + (z.wrapping_sub(high) & 0xffff_ffff)];
         if let Some(p) = within(cell).filter(|_| hash(cell) == 0) {
             return p;
         }
@@ -66,7 +75,7 @@ fn beside(random: &mut Random, home: Cell, buckets: usize, bits: usize) -> Point
     let kept = [bits + 2, bits + 1, bits].map(|b| (1 << (b / 3)) - 1);
     loop {
         let cell = [0, 1, 2].map(|a| {
-            let any = ZERO - FAR + random.bits() % (2 * FAR);
+            let any = HOME - FAR + random.bits() % (2 * FAR);
             any & !kept[a] | home[a] & kept[a]
         });
         if let Some(p) = within(cell).filter(|_| bucket(cell) == bucket(home)) {
@@ -79,16 +88,16 @@ fn beside(random: &mut Random, home: Cell, buckets: usize, bits: usize) -> Point
 /// midst, so that each looks through all eight.
 pub fn long_ways(count: usize) -> Vec<Point> {
     let mut random = Random::new(6);
-    let middle = [(); 3].map(|_| ZERO + random.below(1_000_000) as u64);
-    let centre = middle.map(|c| (c - ZERO) as f64 * 4.0 * SIDE);
+    let middle = [(); 3].map(|_| HOME + random.below(1_000_000) as u64);
+    let centre = middle.map(from);
     let mut corners = vec![];
     for d in 0..8 {
         let home = [0, 1, 2].map(|a| middle[a] - (d >> a & 1));
         corners.extend((0..90).map(|bits| beside(&mut random, home, 2 * count, bits)));
     }
     let at = |k: [i32; 3], part: f64| [0, 1, 2].map(|a| centre[a] + (k[a] as f64 + 0.3) * part);
-    let grid = |i: i32| [i % 12 - 6, i / 12 % 12 - 6, i / 144 - 6];
-    let packed = (0..1728).map(grid).filter(|k| k.iter().sum::<i32>() % 2 == 0);
+    let grid = |i: i32| [i % 10 - 5, i / 10 % 10 - 5, i / 100 - 5];
+    let packed = (0..1000).map(grid).filter(|k| k.iter().sum::<i32>() % 2 == 0);
     corners.extend(packed.map(|k| at(k, 1.0000003 * SIDE / 2f64.sqrt())));
     corners.extend((0..).map(|i| at([i % 7, i / 7 % 5, 0], 1e-7)).take(count - corners.len()));
     corners

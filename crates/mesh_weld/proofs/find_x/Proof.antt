@@ -10,10 +10,10 @@ use Rattle.mesh_weld.proofs.find_x.Tie as tie
 
 abbrev Inv-loop : tie.InvT-loop
 Inv-loop vertices scratch g p c first r₀ x₀ r x =
-    (x ≤ (c .x + 1) / 4 + 1) × Least (Passed (About vertices c) (coarse-x vertices c) x) (scoreAt vertices p c) (g .count) first r
+    (x ≤ (c .x + 1) / 3 + 1) × Least (Passed (About vertices c) (coarse-x vertices c) x) (scoreAt vertices p c) (g .count) first r
 
 abbrev μ-loop : tie.MeasureT-loop
-μ-loop vertices scratch g p c first r₀ x₀ r x = (c .x + 1) / 4 + 1 - x
+μ-loop vertices scratch g p c first r₀ x₀ r x = (c .x + 1) / 3 + 1 - x
 
 sub-x : tie.Need-sub-x Inv-loop μ-loop
 sub-x c = omega arith
@@ -22,7 +22,7 @@ loop-holds : tie.Need-loop-holds Inv-loop μ-loop
 loop-holds c =
     let s = c .before .before .before in
     let a = s .args in
-    (omega arith, passed-none (scoreAt (a .vertices .now) (a .p) (a .c)) (a .g .count) (a .first) (About (a .vertices .now) (a .c)) (coarse-x (a .vertices .now) (a .c)) ((a .c .x - 1) / 4) (λ i h. from (a .c .x) (key (pointAt (a .vertices .now) i .x)) (h .x)))
+    (omega arith, passed-none (scoreAt (a .vertices .now) (a .p) (a .c)) (a .g .count) (a .first) (About (a .vertices .now) (a .c)) (coarse-x (a .vertices .now) (a .c)) ((a .c .x - 1) / 3) (λ i h. from (a .c .x) (key (pointAt (a .vertices .now) i .x)) (h .x)))
 
 add-if1 : tie.Need-add-if1 Inv-loop μ-loop
 add-if1 c = omega arith

@@ -10,10 +10,10 @@ use Rattle.mesh_weld.proofs.find_y.Tie as tie
 
 abbrev Inv-loop : tie.InvT-loop
 Inv-loop vertices scratch g p c x first r₀ y₀ r y =
-    (y ≤ (c .y + 1) / 4 + 1) × Least (Passed (InLayer vertices c x) (coarse-y vertices c) y) (scoreAt vertices p c) (g .count) first r
+    (y ≤ (c .y + 1) / 3 + 1) × Least (Passed (InLayer vertices c x) (coarse-y vertices c) y) (scoreAt vertices p c) (g .count) first r
 
 abbrev μ-loop : tie.MeasureT-loop
-μ-loop vertices scratch g p c x first r₀ y₀ r y = (c .y + 1) / 4 + 1 - y
+μ-loop vertices scratch g p c x first r₀ y₀ r y = (c .y + 1) / 3 + 1 - y
 
 sub-y : tie.Need-sub-y Inv-loop μ-loop
 sub-y c = omega arith
@@ -22,7 +22,7 @@ loop-holds : tie.Need-loop-holds Inv-loop μ-loop
 loop-holds c =
     let s = c .before .before .before in
     let a = s .args in
-    (omega arith, passed-none (scoreAt (a .vertices .now) (a .p) (a .c)) (a .g .count) (a .first) (InLayer (a .vertices .now) (a .c) (a .x)) (coarse-y (a .vertices .now) (a .c)) ((a .c .y - 1) / 4) (λ i h. from (a .c .y) (key (pointAt (a .vertices .now) i .y)) (h .y)))
+    (omega arith, passed-none (scoreAt (a .vertices .now) (a .p) (a .c)) (a .g .count) (a .first) (InLayer (a .vertices .now) (a .c) (a .x)) (coarse-y (a .vertices .now) (a .c)) ((a .c .y - 1) / 3) (λ i h. from (a .c .y) (key (pointAt (a .vertices .now) i .y)) (h .y)))
 
 add-if1 : tie.Need-add-if1 Inv-loop μ-loop
 add-if1 c = omega arith

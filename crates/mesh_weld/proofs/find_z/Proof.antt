@@ -10,10 +10,10 @@ use Rattle.mesh_weld.proofs.find_z.Tie as tie
 
 abbrev Inv-loop : tie.InvT-loop
 Inv-loop vertices scratch g p c x y first r₀ z₀ r z =
-    (z ≤ (c .z + 1) / 4 + 1) × Least (Passed (InColumn vertices c x y) (coarse-z vertices c) z) (scoreAt vertices p c) (g .count) first r
+    (z ≤ (c .z + 1) / 3 + 1) × Least (Passed (InColumn vertices c x y) (coarse-z vertices c) z) (scoreAt vertices p c) (g .count) first r
 
 abbrev μ-loop : tie.MeasureT-loop
-μ-loop vertices scratch g p c x y first r₀ z₀ r z = (c .z + 1) / 4 + 1 - z
+μ-loop vertices scratch g p c x y first r₀ z₀ r z = (c .z + 1) / 3 + 1 - z
 
 sub-z : tie.Need-sub-z Inv-loop μ-loop
 sub-z c = omega arith
@@ -22,7 +22,7 @@ loop-holds : tie.Need-loop-holds Inv-loop μ-loop
 loop-holds c =
     let s = c .before .before .before in
     let a = s .args in
-    (omega arith, passed-none (scoreAt (a .vertices .now) (a .p) (a .c)) (a .g .count) (a .first) (InColumn (a .vertices .now) (a .c) (a .x) (a .y)) (coarse-z (a .vertices .now) (a .c)) ((a .c .z - 1) / 4) (λ i h. from (a .c .z) (key (pointAt (a .vertices .now) i .z)) (h .z)))
+    (omega arith, passed-none (scoreAt (a .vertices .now) (a .p) (a .c)) (a .g .count) (a .first) (InColumn (a .vertices .now) (a .c) (a .x) (a .y)) (coarse-z (a .vertices .now) (a .c)) ((a .c .z - 1) / 3) (λ i h. from (a .c .z) (key (pointAt (a .vertices .now) i .z)) (h .z)))
 
 add-if1 : tie.Need-add-if1 Inv-loop μ-loop
 add-if1 c = omega arith

@@ -169,8 +169,8 @@ mod calls {
         },
         Call {
             name: "weld, a lattice in one bucket",
-            port: |mesh, runs| weld_of(&cluster(mesh, 17179.86918), runs),
-            original: |mesh, runs| get_or_insert_of(&cluster(mesh, 17179.86918), runs),
+            port: |mesh, runs| weld_of(&cluster(mesh, 12884.901885), runs),
+            original: |mesh, runs| get_or_insert_of(&cluster(mesh, 12884.901885), runs),
         },
         Call {
             name: "weld, corners made for one bucket",
