@@ -40,7 +40,7 @@ fn on(random: &mut Random, points: Vec<f64>, starts: Vec<u32>) -> Input {
 
 /// Points along the axes from the first, this way and that, whose squared lengths lie a few f64 apart: some have one root.
 fn near(random: &mut Random, points: usize) -> Vec<f64> {
-    let scale = random.one_of(&[1.0, 1.5, 1.4142, 2.0f64.powi(-537), 3e-162]) * (1.0 + random.unit());
+    let scale = random.one_of(&[1.0, 1.5, 1.42, 2.0f64.powi(-537), 3e-162]) * (1.0 + random.unit());
     let mut list = vec![0.0; points * 3];
     for (i, point) in list.chunks_exact_mut(3).enumerate().skip(1) {
         let length = f64::from_bits(scale.to_bits() + random.below(6) as u64);
