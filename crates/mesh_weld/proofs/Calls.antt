@@ -4,15 +4,14 @@ use mathlib.Core.List.{List, [], _∷_}
 use Prim.Native.Nat.{ℕ, _+_, _*_, _/_, _%_, _≤_}
 use native.Mathlib.Omega.{arith}
 use lib.ListN.{length, replicate}
-use lib.Seq.{sets, sets-eq}
 use lib.Ieee.{Float}
 use borrow.Author.Tests.{leb-true, eqb-true}
 use Rattle.refusal.specs.Limits.{mostFaces}
 use Rattle.refusal.specs.Said.{Said, accepted, refused}
 use Rattle.refusal.specs.declared.Refusal.{Refusal}
 use Rattle.refusal.specs.declared.Verdict.the-variants.{Accepted, Refused}
-use Rattle.path.specs.Laid.{over}
 use Rattle.path.proofs.Tests.{passed}
+use Rattle.path.proofs.Pushes.{over-sets}
 use Rattle.mesh_weld.specs.Weld.{weldOf}
 use Rattle.mesh_weld.specs.Call.{verdictOf, Left, left, leftBy, weldLeft, Laid}
 
@@ -28,10 +27,6 @@ fitting cs w r n h =
     let room = passed _ _ _ (words .1) in
     let numbers = passed _ _ _ (room .1) in
     (eqb-true _ _ (shape .0), leb-true _ _ (count .0), leb-true _ _ (words .0), leb-true _ _ (room .0), leb-true _ _ (numbers .0))
-
-over-sets : {A : Type 0} (l new : List A) → length new ≤ length l → sets l 0 new ≡ over l new
-unfolding over
-over-sets l new h = let e : 0 + length new ≡ length new = omega arith in rw e at (sets-eq new l 0 (omega arith))
 
 same-left : {r q : Said ℕ} {s t : List ℕ} {vs us : List Float} {is js : List ℕ} → r ≡ q → s ≡ t → vs ≡ us → is ≡ js → left r s vs is ≡ left q t us js
 same-left a b c d = cc
