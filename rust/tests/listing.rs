@@ -1,4 +1,4 @@
-//! `tools/list` tells failure by its status: 0 listed, 1 refused, 2 not written or not built.
+//! `tools/list` tells failure by its status: 0 listed, 1 refused, 2 not built, not read or not written.
 
 use ramikohy::{Strokes, write_sheet};
 use std::io::Write;
@@ -36,6 +36,10 @@ fn its_status_tells_failure() {
     let (status, _, err) = run(&lister, &[], &sheet, full.into());
     assert_eq!(status, Some(2));
     assert!(err.contains("could not be written"));
+    let folder = std::fs::File::open(root()).unwrap();
+    let said = Command::new(&lister).stdin(folder).output().unwrap();
+    assert_eq!(said.status.code(), Some(2), "a folder is no sheet that was read");
+    assert!(said.stdout.is_empty());
 }
 
 #[test]

@@ -22,7 +22,7 @@ strokesLeft p q points starts = strokesOf (numberAt (take p points)) (length (ta
 -- strokes that draw each pair a b, in either direction, exactly `times a b` times
 pub record Draws (times : ℕ → ℕ → ℕ) (strokes : List (List ℕ)) : Type 0 where
   pub pairs : (a b : ℕ) → drawn eqb a b strokes ≡ times a b
-  -- a vertex ends one open stroke where an odd number of the drawn pairs meet, and else none
+  -- a vertex ends one open stroke where an odd number of the drawn pairs, which are those of `times`, meet, and else none
   pub odd : (v : ℕ) → endsOpen eqb v strokes ≡ degree eqb v strokes % 2
   -- no other strokes that draw the pairs so often have fewer open ones
   pub least : (other : List (List ℕ)) → ((a b : ℕ) → drawn eqb a b other ≡ times a b) → openCount eqb strokes ≤ openCount eqb other

@@ -84,6 +84,31 @@ fn beside(random: &mut Random, home: Cell, buckets: usize, bits: usize) -> Point
     }
 }
 
+/// Steps from a coarse cell that keep the first `bits` bits of its way and, since the hash is a sum, nearly always its bucket.
+fn steps(random: &mut Random, bits: usize) -> Vec<Cell> {
+    let shift = [bits + 2, bits + 1, bits].map(|b| b / 3);
+    let any = |random: &mut Random| shift.map(|s| random.bits() % (FAR / 2) >> s << s);
+    let near = |cell: &Cell| hash(*cell).min(PRIME - hash(*cell)) < 2_000 && *cell != [0; 3];
+    (0..30_000_000).map(|_| any(random)).filter(near).take(8).collect()
+}
+
+/// The vertices of eight coarse cells about a corner, as full as they can lie.
+fn packed(centre: Point) -> impl Iterator<Item = Point> {
+    let grid = |i: i32| [i % 10 - 5, i / 10 % 10 - 5, i / 100 - 5];
+    let part = 1.0000003 * SIDE / 2f64.sqrt();
+    (0..1000).map(grid).filter(|k| k.iter().sum::<i32>() % 2 == 0).map(move |k| beside_by(centre, k, part))
+}
+
+/// The point some parts away from another.
+fn beside_by(centre: Point, parts: [i32; 3], part: f64) -> Point {
+    [0, 1, 2].map(|a| centre[a] + (parts[a] as f64 + 0.3) * part)
+}
+
+/// The k-th of the corners in the midst of eight packed cells.
+fn amid(centre: Point, k: usize) -> Point {
+    beside_by(centre, [(k % 7) as i32, (k / 7 % 5) as i32, 0], 1e-7)
+}
+
 /// Eight coarse cells about a corner, as full as vertices lie, with ways of 90 vertices to each; and all other corners in their
 /// midst, so that each looks through all eight.
 pub fn long_ways(count: usize) -> Vec<Point> {
@@ -95,10 +120,36 @@ pub fn long_ways(count: usize) -> Vec<Point> {
         let home = [0, 1, 2].map(|a| middle[a] - (d >> a & 1));
         corners.extend((0..90).map(|bits| beside(&mut random, home, 2 * count, bits)));
     }
-    let at = |k: [i32; 3], part: f64| [0, 1, 2].map(|a| centre[a] + (k[a] as f64 + 0.3) * part);
-    let grid = |i: i32| [i % 10 - 5, i / 10 % 10 - 5, i / 100 - 5];
-    let packed = (0..1000).map(grid).filter(|k| k.iter().sum::<i32>() % 2 == 0);
-    corners.extend(packed.map(|k| at(k, 1.0000003 * SIDE / 2f64.sqrt())));
-    corners.extend((0..).map(|i| at([i % 7, i / 7 % 5, 0], 1e-7)).take(count - corners.len()));
+    corners.extend(packed(centre));
+    corners.extend((0..count - corners.len()).map(|k| amid(centre, k)));
+    corners
+}
+
+/// The same at many places, about 68 vertices on each way, all in a mixed order: each step of a look is far from the last.
+pub fn many_long_ways(count: usize) -> Vec<Point> {
+    let mut random = Random::new(77);
+    let bucket = |cell: Cell| (hash(cell) as usize * 2 * count) >> 32;
+    let steps: Vec<Vec<Cell>> = (0..92).map(|bits| steps(&mut random, bits)).collect();
+    let centres: Vec<Cell> = (0..count / 3277)
+        .map(|_| [(); 3].map(|_| HOME + random.below(100_000_000_000) as u64 - 50_000_000_000))
+        .collect();
+    let mut corners = vec![];
+    for middle in &centres {
+        for d in 0..8 {
+            let home = [0, 1, 2].map(|a| middle[a] - (d >> a & 1));
+            let sums = |step: &Cell| {
+                [1u64, u64::MAX].map(|sign| [0, 1, 2].map(|a| home[a].wrapping_add(step[a].wrapping_mul(sign))))
+            };
+            let on_way =
+                |steps: &Vec<Cell>| steps.iter().flat_map(sums).filter(|&c| bucket(c) == bucket(home)).find_map(within);
+            corners.extend(steps.iter().filter_map(on_way));
+        }
+        corners.extend(packed(middle.map(from)));
+    }
+    for i in (1..corners.len()).rev() {
+        corners.swap(i, random.below(i + 1));
+    }
+    let more = count - corners.len();
+    corners.extend((0..more).map(|k| amid(centres[random.below(centres.len())].map(from), k)));
     corners
 }

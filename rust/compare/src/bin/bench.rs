@@ -188,6 +188,11 @@ mod calls {
             original: |mesh, runs| get_or_insert_of(&crowded::long_ways(mesh.faces.len() * 3), runs),
         },
         Call {
+            name: "weld, long ways at sixty places, mixed",
+            port: |mesh, runs| weld_of(&crowded::many_long_ways(mesh.faces.len() * 3), runs.min(3)),
+            original: |mesh, runs| get_or_insert_of(&crowded::many_long_ways(mesh.faces.len() * 3), runs.min(3)),
+        },
+        Call {
             name: "draw, triangles, one vertex in every face",
             port: |mesh, runs| draw_of(&mesh.fan(), TRIANGLES, &[], runs),
             original: |mesh, runs| paths_of(&mesh.fan(), TRIANGLES, &[], runs),
