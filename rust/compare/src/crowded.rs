@@ -87,7 +87,7 @@ fn beside(random: &mut Random, home: Cell, buckets: usize, bits: usize) -> Point
 /// Steps from a coarse cell that keep the first `bits` bits of its way and, since the hash is a sum, nearly always its bucket.
 fn steps(random: &mut Random, bits: usize) -> Vec<Cell> {
     let shift = [bits + 2, bits + 1, bits].map(|b| b / 3);
-    let any = |random: &mut Random| shift.map(|s| random.bits() % (FAR / 2) >> s << s);
+    let any = |random: &mut Random| shift.map(|s| (random.bits() % (FAR / 2)) >> s << s);
     let near = |cell: &Cell| hash(*cell).min(PRIME - hash(*cell)) < 2_000 && *cell != [0; 3];
     (0..30_000_000).map(|_| any(random)).filter(near).take(8).collect()
 }
@@ -95,7 +95,7 @@ fn steps(random: &mut Random, bits: usize) -> Vec<Cell> {
 /// The vertices of eight coarse cells about a corner, as full as they can lie.
 fn packed(centre: Point) -> impl Iterator<Item = Point> {
     let grid = |i: i32| [i % 10 - 5, i / 10 % 10 - 5, i / 100 - 5];
-    let part = 1.0000003 * SIDE / 2f64.sqrt();
+    let part = 1.0002 * SIDE / 2f64.sqrt();
     (0..1000).map(grid).filter(|k| k.iter().sum::<i32>() % 2 == 0).map(move |k| beside_by(centre, k, part))
 }
 
@@ -125,31 +125,42 @@ pub fn long_ways(count: usize) -> Vec<Point> {
     corners
 }
 
-/// The same at many places, about 68 vertices on each way, all in a mixed order: each step of a look is far from the last.
+/// The same at sixty places of 196,608 corners, the places in a mixed order, so that each step of a look is far from the last. On a
+/// way the vertices that share the fewest bits come first: each then stays on it.
 pub fn many_long_ways(count: usize) -> Vec<Point> {
     let mut random = Random::new(77);
     let bucket = |cell: Cell| (hash(cell) as usize * 2 * count) >> 32;
     let steps: Vec<Vec<Cell>> = (0..92).map(|bits| steps(&mut random, bits)).collect();
-    let centres: Vec<Cell> = (0..count / 3277)
-        .map(|_| [(); 3].map(|_| HOME + random.below(100_000_000_000) as u64 - 50_000_000_000))
-        .collect();
-    let mut corners = vec![];
-    for middle in &centres {
+    let any = |random: &mut Random| HOME + random.below(100_000_000_000) as u64 - 50_000_000_000;
+    let middles: Vec<Cell> = (0..count / 3277).map(|_| [(); 3].map(|_| any(&mut random))).collect();
+    let mut lists: Vec<Vec<Point>> = vec![];
+    for middle in &middles {
+        let mut list = vec![];
         for d in 0..8 {
             let home = [0, 1, 2].map(|a| middle[a] - (d >> a & 1));
-            let sums = |step: &Cell| {
-                [1u64, u64::MAX].map(|sign| [0, 1, 2].map(|a| home[a].wrapping_add(step[a].wrapping_mul(sign))))
+            let turned = |step: &Cell| [1, u64::MAX].map(|sign| step.map(|s| s.wrapping_mul(sign)));
+            let beside = |step: Cell| [0, 1, 2].map(|a| home[a].wrapping_add(step[a]));
+            let on_way = |steps: &Vec<Cell>| {
+                let cells = steps.iter().flat_map(turned).map(beside);
+                cells.filter(|&cell| bucket(cell) == bucket(home)).find_map(within)
             };
-            let on_way =
-                |steps: &Vec<Cell>| steps.iter().flat_map(sums).filter(|&c| bucket(c) == bucket(home)).find_map(within);
-            corners.extend(steps.iter().filter_map(on_way));
+            list.extend(steps.iter().filter_map(on_way));
         }
-        corners.extend(packed(middle.map(from)));
+        let mut full: Vec<Point> = packed(middle.map(from)).collect();
+        (1..full.len()).rev().for_each(|i| full.swap(i, random.below(i + 1)));
+        list.extend(full);
+        list.reverse();
+        lists.push(list);
     }
-    for i in (1..corners.len()).rev() {
-        corners.swap(i, random.below(i + 1));
+    let mut corners = vec![];
+    while !lists.is_empty() {
+        let place = random.below(lists.len());
+        match lists[place].pop() {
+            Some(corner) => corners.push(corner),
+            None => drop(lists.swap_remove(place)),
+        }
     }
     let more = count - corners.len();
-    corners.extend((0..more).map(|k| amid(centres[random.below(centres.len())].map(from), k)));
+    corners.extend((0..more).map(|k| amid(middles[random.below(middles.len())].map(from), k)));
     corners
 }
