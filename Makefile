@@ -16,6 +16,7 @@ run:
 	@./tools/needs rt cargo
 	@./tools/proved ramikohy list
 	@mkdir -p target/sheets
+	@[ -f target/native/libramikohy.a ] || echo 'compiling the library for this machine: a minute'
 	@$(cargo) --package ramikohy --example casting -- tools/list target/sheets
 
 test:
