@@ -2,12 +2,13 @@
 use mathlib.Core.List.{List, _++_, map}
 use Prim.Native.Nat.{ℕ, _+_}
 use lib.ListN.{getD, set, take, drop}
+use Rattle.refusal.specs.Limits.{mostToSimplify}
 use Rattle.vector.specs.declared.Vector.{Vector}
 use Rattle.path_simplify.specs.Simplify.{Thin}
 
 -- two counts, and a place for each point of the longest stroke
 abbrev pub notesLong : ℕ
-notesLong = 4098
+notesLong = mostToSimplify + 2
 
 -- nothing so far
 unfoldable pub cleared : List ℕ → List ℕ
