@@ -81,11 +81,11 @@ module _ (vs : List Float) (is flips : List ℕ) (number : ℕ) (cosine : Float)
   verdict = C.verdictOf vs is (length flips) number cosine eye tolerance (length s) (length f) (length op) (length os)
 
   abbrev drawn-of : List (List ℕ)
-  drawn-of = drawingOf (C.modeIn number cosine) eye tolerance flips vs is
+  drawn-of = drawingOf (C.modeNamed number cosine) eye tolerance flips vs is
 
   -- how often each pair is to be drawn: once where it is kept, and else not at all
   abbrev pub onceKept : ℕ → ℕ → ℕ
-  onceKept a b = one (keptPair (C.modeIn number cosine) eye tolerance flips vs is a b)
+  onceKept a b = one (keptPair (C.modeNamed number cosine) eye tolerance flips vs is a b)
 
   words : verdict ≡ Accepted → (k : ℕ) → getD is k 0 < 4294967296
   unfolding C.verdictOf countedOf
@@ -95,9 +95,9 @@ module _ (vs : List Float) (is flips : List ℕ) (number : ℕ) (cosine : Float)
       let vertex = passed _ _ _ (count .1) in
       below-words (length vs / 3) is (vertex .0) (leb-true _ _ (both (leb (length vs / 3) mostVertices) (leb (length is / 3) mostFaces) (count .0) .0))
 
-  kept-once : verdict ≡ Accepted → (a b : ℕ) → drawn eqb a b (keptOf (C.modeIn number cosine) eye tolerance flips vs is) ≡ onceKept a b
+  kept-once : verdict ≡ Accepted → (a b : ℕ) → drawn eqb a b (keptOf (C.modeNamed number cosine) eye tolerance flips vs is) ≡ onceKept a b
   unfolding keptOf keptPair
-  kept-once h a b = once (kept (C.modeIn number cosine) (seenBy eye vs is) flips tolerance) is (words h) a b
+  kept-once h a b = once (kept (C.modeNamed number cosine) (seenBy eye vs is) flips tolerance) is (words h) a b
 
   draw-accepted : (v : Verdict) (p q : ℕ) (s′ : List ℕ) (f′ : List Float) (op′ os′ : List ℕ) → L.left (accepted (p ∷ q ∷ [])) s′ f′ op′ os′ ≡ C.leftBy v drawn-of s f op os
       → (v ≡ Accepted) × (drawn-of ≡ strokesLeft p q op′ os′)
@@ -113,4 +113,4 @@ module _ (vs : List Float) (is flips : List ℕ) (number : ℕ) (cosine : Float)
   unfolding C.drawLeft
   draw-demand3 p q s′ f′ op′ os′ e =
       let g = draw-accepted verdict p q s′ f′ op′ os′ e in
-      subst (Draws onceKept) (g .1) (draws (keptOf (C.modeIn number cosine) eye tolerance flips vs is) drawn-of onceKept (D.drawn (C.modeIn number cosine) eye tolerance flips vs is) (kept-once (g .0)))
+      subst (Draws onceKept) (g .1) (draws (keptOf (C.modeNamed number cosine) eye tolerance flips vs is) drawn-of onceKept (D.drawn (C.modeNamed number cosine) eye tolerance flips vs is) (kept-once (g .0)))

@@ -17,7 +17,7 @@ use Rattle.mesh.specs.Meshes.{shapedOf, countedOf, allBelow}
 use Rattle.mesh_mode.specs.declared.Mode.{Mode}
 use Rattle.mesh_strokes.specs.Draw.{drawingOf}
 use Rattle.mesh_strokes.specs.Strokes.{Left, left, laid, fits, strokesLeft}
-use Rattle.mesh_draw.specs.Call.{paired, workVerdict, verdictOf, modeIn, leftBy, drawLeft}
+use Rattle.mesh_draw.specs.Call.{paired, workVerdict, verdictOf, modeNamed, leftBy, drawLeft}
 
 -- what passes the tests fits, and every index is that of a vertex
 pub granted : (vs : List Float) (is : List ℕ) (flips number : ℕ) (cosine : Float) (eye : Vector) (tolerance : Float) (words numbers room startRoom : ℕ)
@@ -35,12 +35,12 @@ granted vs is flips number cosine eye tolerance words numbers room startRoom h =
 
 module _ (vs : List Float) (is flips : List ℕ) (number : ℕ) (cosine : Float) (eye : Vector) (tolerance : Float) (s : List ℕ) (f : List Float) (op os : List ℕ) where
   -- an accepted call leaves what drawing in the mode leaves
-  pub accept : (mode : Mode) (l : Left) → mode ≡ modeIn number cosine
+  pub accept : (mode : Mode) (l : Left) → mode ≡ modeNamed number cosine
       → verdictOf vs is (length flips) number cosine eye tolerance (length s) (length f) (length op) (length os) ≡ Accepted
       → l ≡ strokesLeft vs is flips mode eye tolerance s f op os → l ≡ drawLeft vs is flips number cosine eye tolerance s f op os
   unfolding drawLeft leftBy strokesLeft
   accept mode l m v e =
-      let D = drawingOf (modeIn number cosine) eye tolerance flips vs is in
+      let D = drawingOf (modeNamed number cosine) eye tolerance flips vs is in
       let none = left (accepted (0 ∷ 0 ∷ [])) s f op os in
       e ∙ ap (λ (n : Mode). cond (fits (length is) (length s) (length f) (length op) (length os) && allBelow (length vs / 3) is) (laid (drawingOf n eye tolerance flips vs is) s f op os) none) m
       ∙ ap (λ (b : Bool). cond b (laid D s f op os) none) (granted vs is (length flips) number cosine eye tolerance (length s) (length f) (length op) (length os) v)

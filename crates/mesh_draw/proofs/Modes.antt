@@ -12,12 +12,13 @@ use Rattle.refusal.specs.Refusals.{numberOf}
 use Rattle.refusal.specs.Said.{Said}
 use Rattle.mesh.specs.Meshes.{faceAt}
 use Rattle.mesh_mode.specs.declared.Mode.{Mode}
-use Rattle.mesh_mode.specs.declared.Mode.the-variants.{Triangles, Polygonal, Silhouette}
+use Rattle.mesh_mode.specs.declared.Mode.the-variants.{Triangles}
+use Rattle.mesh_mode.specs.declared.Needs.{Needs}
 use Rattle.mesh_mode.specs.declared.Moded.{Moded}
 use Rattle.mesh_mode.specs.declared.Moded.the-variants.{Of, Refused}
-use Rattle.mesh_mode.specs.Modes.{modeOf, modeSaid}
+use Rattle.mesh_mode.specs.Modes.{needsOf, modeOf, modeSaid}
 use Rattle.mesh_seen.specs.Seen.{flatFrom}
-use Rattle.mesh_draw.specs.Call.{modeGood, modeIn, flatIn}
+use Rattle.mesh_draw.specs.Call.{namesMode, modeNamed, flatIn}
 
 no-zero : (r : Refusal) → false ≡ eqb (numberOf r) 0
 no-zero Shape = refl
@@ -31,27 +32,23 @@ no-zero Deep = refl
 no-zero Sheet = refl
 
 module _ (n : ℕ) (c : Float) (r : Moded) (e : modeSaid r ≡ modeOf n c) where
-  pub good-mode : (m : Mode) → r ≡ Of m → true ≡ modeGood n c
+  pub good-mode : (m : Mode) → r ≡ Of m → true ≡ namesMode n c
   good-mode m t = ap (λ (s : Said Mode). eqb (s .number) 0) (ap modeSaid (sym t) ∙ e)
 
-  pub bad-mode : (w : Refusal) → r ≡ Refused w → false ≡ modeGood n c
+  pub bad-mode : (w : Refusal) → r ≡ Refused w → false ≡ namesMode n c
   bad-mode w t = no-zero w ∙ ap (λ (s : Said Mode). eqb (s .number) 0) (ap modeSaid (sym t) ∙ e)
 
-  pub mode-known : (m : Mode) → r ≡ Of m → m ≡ modeIn n c
+  pub mode-known : (m : Mode) → r ≡ Of m → m ≡ modeNamed n c
   mode-known m t = ap (λ (s : Said Mode). getD (s .values) 0 Triangles) (ap modeSaid (sym t) ∙ e)
 
-  pub mode-none : (w : Refusal) → r ≡ Refused w → Triangles ≡ modeIn n c
+  pub mode-none : (w : Refusal) → r ≡ Refused w → Triangles ≡ modeNamed n c
   mode-none w t = ap (λ (s : Said Mode). getD (s .values) 0 Triangles) (ap modeSaid (sym t) ∙ e)
 
-module _ (mode : Mode) (vs : List Float) (is : List ℕ) where
-  pub flat-triangles : mode ≡ Triangles → false ≡ flatIn mode vs is
+module _ (mode : Mode) (n : Needs) (e : n ≡ needsOf mode) (vs : List Float) (is : List ℕ) where
+  pub flat-needed : n .normals ≡ true → flatFrom (faceAt vs is) 0 (length is / 3) ≡ flatIn mode vs is
   unfolding flatIn
-  flat-triangles e = ap (λ (m : Mode). flatIn m vs is) (sym e)
+  flat-needed t = rw (← e, t)
 
-  pub flat-polygonal : mode ≡ Polygonal → flatFrom (faceAt vs is) 0 (length is / 3) ≡ flatIn mode vs is
+  pub flat-spared : n .normals ≡ false → false ≡ flatIn mode vs is
   unfolding flatIn
-  flat-polygonal e = ap (λ (m : Mode). flatIn m vs is) (sym e)
-
-  pub flat-silhouette : (c : Float) → mode ≡ Silhouette c → flatFrom (faceAt vs is) 0 (length is / 3) ≡ flatIn mode vs is
-  unfolding flatIn
-  flat-silhouette c e = ap (λ (m : Mode). flatIn m vs is) (sym e)
+  flat-spared t = rw (← e, t)

@@ -14,8 +14,8 @@ use Rattle.vector.specs.declared.Vector.{Vector}
 use Rattle.path.specs.Tests.{coordinatesGood, toleranceGood}
 use Rattle.mesh.specs.Meshes.{faceAt, shapedOf, countedOf, allBelow, vectorGood}
 use Rattle.mesh_mode.specs.declared.Mode.{Mode}
-use Rattle.mesh_mode.specs.declared.Mode.the-variants.{Triangles, Polygonal, Silhouette}
-use Rattle.mesh_mode.specs.Modes.{modeOf}
+use Rattle.mesh_mode.specs.declared.Mode.the-variants.{Triangles}
+use Rattle.mesh_mode.specs.Modes.{needsOf, modeOf}
 use Rattle.mesh_seen.specs.Seen.{flatFrom}
 use Rattle.mesh_draw.specs.declared.Drawing.{Drawing}
 use Rattle.mesh_draw.specs.declared.Drawing.the-variants as D
@@ -27,12 +27,12 @@ abbrev pub said : Drawing → Said ℕ
 said (D.Wrote points starts) = accepted (points ∷ starts ∷ [])
 said (D.Refused r) = refused r
 
--- the mode of a number; a number that has none is refused
-abbrev pub modeGood : ℕ → Float → Bool
-modeGood number cosine = eqb (modeOf number cosine .number) 0
+-- whether a number names a mode, and which; a number that names none is refused
+abbrev pub namesMode : ℕ → Float → Bool
+namesMode number cosine = eqb (modeOf number cosine .number) 0
 
-abbrev pub modeIn : ℕ → Float → Mode
-modeIn number cosine = getD (modeOf number cosine .values) 0 Triangles
+abbrev pub modeNamed : ℕ → Float → Mode
+modeNamed number cosine = getD (modeOf number cosine .values) 0 Triangles
 
 -- so many numbers are a list of pairs
 abbrev pub paired : ℕ → Bool
@@ -40,13 +40,11 @@ paired numbers = eqb (numbers % 2) 0
 
 -- coordinates, mode with its cosine, eye and tolerance within their ranges
 unfoldable pub numbersGood : List Float → ℕ → Float → Vector → Float → Bool
-numbersGood vs number cosine eye tolerance = coordinatesGood vs && modeGood number cosine && vectorGood eye && toleranceGood tolerance
+numbersGood vs number cosine eye tolerance = coordinatesGood vs && namesMode number cosine && vectorGood eye && toleranceGood tolerance
 
 -- whether a mode needs a normal that some face does not have
 unfoldable pub flatIn : Mode → List Float → List ℕ → Bool
-flatIn Triangles vs is = false
-flatIn Polygonal vs is = flatFrom (faceAt vs is) 0 (length is / 3)
-flatIn (Silhouette cosine) vs is = flatFrom (faceAt vs is) 0 (length is / 3)
+flatIn mode vs is = needsOf mode .normals && flatFrom (faceAt vs is) 0 (length is / 3)
 
 -- the tests of what a drawing works with and on
 unfoldable pub workVerdict : List Float → List ℕ → ℕ → Float → Vector → Float → ℕ → ℕ → ℕ → ℕ → Verdict
@@ -54,7 +52,7 @@ workVerdict vs is number cosine eye tolerance words numbers room startRoom =
     unless (numbersGood vs number cosine eye tolerance) Number
     (unless (scratchFor (length is / 3) words numbers) Scratch
     (unless (roomFor (length is / 3) room startRoom) Room
-    (unless (not (flatIn (modeIn number cosine) vs is)) Flat
+    (unless (not (flatIn (modeNamed number cosine) vs is)) Flat
     Accepted)))
 
 -- those of a mesh, with its list of flips, come before them
@@ -72,4 +70,4 @@ leftBy (Refused r) ss s f op os = left (refused r) s f op os
 
 unfoldable pub drawLeft : List Float → List ℕ → List ℕ → ℕ → Float → Vector → Float → List ℕ → List Float → List ℕ → List ℕ → Left
 drawLeft vs is flips number cosine eye tolerance s f op os =
-    leftBy (verdictOf vs is (length flips) number cosine eye tolerance (length s) (length f) (length op) (length os)) (drawingOf (modeIn number cosine) eye tolerance flips vs is) s f op os
+    leftBy (verdictOf vs is (length flips) number cosine eye tolerance (length s) (length f) (length op) (length os)) (drawingOf (modeNamed number cosine) eye tolerance flips vs is) s f op os

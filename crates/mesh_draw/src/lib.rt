@@ -6,6 +6,7 @@ use mesh::vector_good;
 use mesh_mode::Mode;
 use mesh_mode::Moded;
 use mesh_mode::mode_of;
+use mesh_mode::needs_of;
 use mesh_seen::some_flat;
 use mesh_strokes::draw_strokes;
 use mesh_strokes::room_for;
@@ -21,7 +22,7 @@ ghost use Prim.Native.Nat.{_/_, _≤_};
 ghost use lib.ListN.{length};
 ghost use Rattle.refusal.specs.Limits.{mostFaces};
 ghost use Rattle.mesh.specs.Meshes.{shapedOf, allBelow};
-ghost use Rattle.mesh_draw.specs.Call.{modeGood, modeIn, paired, numbersGood, flatIn, workVerdict, verdictOf, said, drawLeft};
+ghost use Rattle.mesh_draw.specs.Call.{namesMode, modeNamed, paired, numbersGood, flatIn, workVerdict, verdictOf, said, drawLeft};
 ghost use Rattle.mesh_strokes.specs.Strokes.{left};
 
 // What a drawing answers: how many points and starts were written, or the refusal.
@@ -30,9 +31,9 @@ pub enum Drawing {
     Refused(Refusal),
 }
 
-// Whether a number says a mode, and the cosine is one.
-fn mode_good(number: u32, cos_theta: f64) -> bool
-    ensures { λ r. ⌜ r ≡ modeGood number «cos_theta» ⌝ }
+// Whether a number names a mode, and the cosine is one.
+fn names_mode(number: u32, cos_theta: f64) -> bool
+    ensures { λ r. ⌜ r ≡ namesMode number «cos_theta» ⌝ }
 {
     match mode_of(number, cos_theta) {
         Moded::Of(_) => true,
@@ -40,9 +41,9 @@ fn mode_good(number: u32, cos_theta: f64) -> bool
     }
 }
 
-// The mode that a number says.
-fn mode_in(number: u32, cos_theta: f64) -> Mode
-    ensures { λ r. ⌜ r ≡ modeIn number «cos_theta» ⌝ }
+// The mode that a number names.
+fn mode_named(number: u32, cos_theta: f64) -> Mode
+    ensures { λ r. ⌜ r ≡ modeNamed number «cos_theta» ⌝ }
 {
     match mode_of(number, cos_theta) {
         Moded::Of(m) => m,
@@ -67,7 +68,7 @@ fn numbers_good(vertices: &[f64], number: u32, cos_theta: f64, eye: Vector, tole
     if !coordinates_good(vertices) {
         return false;
     }
-    if !mode_good(number, cos_theta) {
+    if !names_mode(number, cos_theta) {
         return false;
     }
     if !vector_good(eye) {
@@ -83,11 +84,11 @@ fn flat_in(mode: Mode, vertices: &[f64], indices: &[u32]) -> bool
     ensures { λ r. ⌜ r ≡ flatIn mode (now (vertices .entry)) (now (indices .entry)) ⌝ }
 {
     let n = (indices.len() / 3) as u32;
-    match mode {
-        Mode::Triangles => false,
-        Mode::Polygonal => some_flat(vertices, indices, n),
-        Mode::Silhouette(_) => some_flat(vertices, indices, n),
+    let needs = needs_of(mode);
+    if needs.normals {
+        return some_flat(vertices, indices, n);
     }
+    false
 }
 
 // The tests of what a drawing works with and on. Nothing lent is touched.
@@ -116,7 +117,7 @@ fn work_verdict(
     if !room_for(indices.len() / 3, room, start_room) {
         return Verdict::Refused(Refusal::Room);
     }
-    if flat_in(mode_in(number, cos_theta), vertices, indices) {
+    if flat_in(mode_named(number, cos_theta), vertices, indices) {
         return Verdict::Refused(Refusal::Flat);
     }
     Verdict::Accepted
@@ -196,7 +197,7 @@ pub fn draw(
     match v {
         Verdict::Refused(r) => Drawing::Refused(r),
         Verdict::Accepted => {
-            let mode = mode_in(number, cos_theta);
+            let mode = mode_named(number, cos_theta);
             let p = draw_strokes(
                 vertices,
                 indices,

@@ -1,4 +1,4 @@
--- The modes of a drawing and their numbers.
+-- The modes of a drawing, what each needs, and their numbers.
 use mathlib.Core.Bool.{Bool, true, false, cond}
 use mathlib.Core.List.{List, [], _∷_}
 use Prim.Native.Nat.{ℕ, zero, suc}
@@ -7,8 +7,15 @@ use Rattle.refusal.specs.Said.{Said, accepted, refused}
 use Rattle.refusal.specs.declared.Refusal.the-variants.{Number}
 use Rattle.mesh_mode.specs.declared.Mode.{Mode}
 use Rattle.mesh_mode.specs.declared.Mode.the-variants.{Triangles, Polygonal, Silhouette}
+use Rattle.mesh_mode.specs.declared.Needs.{Needs}
 use Rattle.mesh_mode.specs.declared.Moded.{Moded}
 use Rattle.mesh_mode.specs.declared.Moded.the-variants as M
+
+-- what a mode needs of a mesh: normals, so that no face may be flat; the list of flips
+abbrev pub needsOf : Mode → Needs
+needsOf Triangles = record { normals = false; flips = false }
+needsOf Polygonal = record { normals = true; flips = false }
+needsOf (Silhouette c) = record { normals = true; flips = true }
 
 -- the answer as the paper reads it
 abbrev pub modeSaid : Moded → Said Mode
@@ -26,9 +33,3 @@ modeBy (suc (suc (suc (suc n)))) c = refused Number
 -- a cosine is anything but NaN, which alone is not equal to itself
 unfoldable pub modeOf : ℕ → Float → Said Mode
 modeOf n c = cond (eq c c) (modeBy n c) (refused Number)
-
--- the number of a mode, which a sheet stores
-abbrev pub modeNumber : Mode → ℕ
-modeNumber Triangles = 1
-modeNumber Polygonal = 2
-modeNumber (Silhouette c) = 3

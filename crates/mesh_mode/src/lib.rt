@@ -1,7 +1,7 @@
 // The mode of a drawing, and the numbers that stand for one.
 use refusal::Refusal;
 ghost use mathlib.Core.Path.{_≡_};
-ghost use Rattle.mesh_mode.specs.Modes.{modeBy, modeOf, modeSaid, modeNumber};
+ghost use Rattle.mesh_mode.specs.Modes.{needsOf, modeBy, modeOf, modeSaid};
 
 // What is drawn of a mesh: all edges; those where faces turn; those where what is seen of the mesh ends, with the least cosine
 // at which an edge is no crease.
@@ -11,10 +11,36 @@ pub enum Mode {
     Silhouette(f64),
 }
 
+// What a mode needs of a mesh: normals, so that no face may be flat; the list of flips.
+pub struct Needs {
+    pub normals: bool,
+    pub flips: bool,
+}
+
 // A mode, or the refusal.
 pub enum Moded {
     Of(Mode),
     Refused(Refusal),
+}
+
+// What each mode needs: a row a mode, and no other place tells the modes apart but the rules of keeping.
+pub fn needs_of(mode: Mode) -> Needs
+    ensures { λ r. ⌜ r ≡ needsOf mode ⌝ }
+{
+    match mode {
+        Mode::Triangles => Needs {
+            normals: false,
+            flips: false,
+        },
+        Mode::Polygonal => Needs {
+            normals: true,
+            flips: false,
+        },
+        Mode::Silhouette(_) => Needs {
+            normals: true,
+            flips: true,
+        },
+    }
 }
 
 // The mode of a number; 0 is not said.
@@ -41,15 +67,4 @@ pub fn mode_of(number: u32, cos_theta: f64) -> Moded
         return mode_by(number, cos_theta);
     }
     Moded::Refused(Refusal::Number)
-}
-
-// The number of a mode, which a sheet stores.
-pub fn number_of(mode: Mode) -> u32
-    ensures { λ r. ⌜ r ≡ modeNumber mode ⌝ }
-{
-    match mode {
-        Mode::Triangles => 1,
-        Mode::Polygonal => 2,
-        Mode::Silhouette(_) => 3,
-    }
 }

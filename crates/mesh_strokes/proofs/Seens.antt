@@ -15,6 +15,8 @@ use Rattle.order.proofs.Sorted.{In}
 use Rattle.mesh.specs.Meshes.{faceAt}
 use Rattle.mesh_mode.specs.declared.Mode.{Mode}
 use Rattle.mesh_mode.specs.declared.Mode.the-variants.{Triangles, Polygonal, Silhouette}
+use Rattle.mesh_mode.specs.declared.Needs.{Needs}
+use Rattle.mesh_mode.specs.Modes.{needsOf}
 use Rattle.mesh_seen.specs.Seen.{seenFrom}
 use Rattle.mesh_seen.proofs.Faces.{Kept, kept-seen}
 use Rattle.mesh_edges.specs.Edges.{faceOf, lowOf, highOf, edgesOf}
@@ -115,29 +117,20 @@ kept-edges mode eye tolerance flips vs is l three room =
     strokes-same _ _ is (length is / 3) (looked eye vs is l room mode flips tolerance) (edgesOf is)
     (λ y i. let e : 3 * (length is / 3) ≡ length is = omega arith in rw e (sides-below is y (subst (In y) (edges-joined is) i)))
 
--- ---- by the mode that was told
-module _ (mode : Mode) (eye : Vector) (vs : List Float) (is : List ℕ) (l : List Float) where
-  pub look-triangles : mode ≡ Triangles → l ≡ lookIn mode eye vs is l
+-- ---- by what the mode was told to need
+module _ (mode : Mode) (n : Needs) (e : n ≡ needsOf mode) where
+  pub look-needed : n .normals ≡ true → (eye : Vector) (vs : List Float) (is : List ℕ) (l : List Float) → seenFrom eye (faceAt vs is) 0 (length is / 3) l ≡ lookIn mode eye vs is l
   unfolding lookIn
-  look-triangles e = ap (λ (m : Mode). lookIn m eye vs is l) (sym e)
+  look-needed t eye vs is l = rw (← e, t)
 
-  pub look-polygonal : mode ≡ Polygonal → seenFrom eye (faceAt vs is) 0 (length is / 3) l ≡ lookIn mode eye vs is l
+  pub look-spared : n .normals ≡ false → (eye : Vector) (vs : List Float) (is : List ℕ) (l : List Float) → l ≡ lookIn mode eye vs is l
   unfolding lookIn
-  look-polygonal e = ap (λ (m : Mode). lookIn m eye vs is l) (sym e)
+  look-spared t eye vs is l = rw (← e, t)
 
-  pub look-silhouette : (cosine : Float) → mode ≡ Silhouette cosine → seenFrom eye (faceAt vs is) 0 (length is / 3) l ≡ lookIn mode eye vs is l
-  unfolding lookIn
-  look-silhouette cosine e = ap (λ (m : Mode). lookIn m eye vs is l) (sym e)
-
-module _ (mode : Mode) (flips : List ℕ) where
-  pub flips-triangles : mode ≡ Triangles → [] ≡ flipsFor mode flips
+  pub flips-needed : n .flips ≡ true → (flips : List ℕ) → flips ≡ flipsFor mode flips
   unfolding flipsFor
-  flips-triangles e = ap (λ (m : Mode). flipsFor m flips) (sym e)
+  flips-needed t flips = rw (← e, t)
 
-  pub flips-polygonal : mode ≡ Polygonal → [] ≡ flipsFor mode flips
+  pub flips-spared : n .flips ≡ false → (flips : List ℕ) → [] ≡ flipsFor mode flips
   unfolding flipsFor
-  flips-polygonal e = ap (λ (m : Mode). flipsFor m flips) (sym e)
-
-  pub flips-silhouette : (cosine : Float) → mode ≡ Silhouette cosine → flips ≡ flipsFor mode flips
-  unfolding flipsFor
-  flips-silhouette cosine e = ap (λ (m : Mode). flipsFor m flips) (sym e)
+  flips-spared t flips = rw (← e, t)

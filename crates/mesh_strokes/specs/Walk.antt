@@ -12,7 +12,7 @@ use Rattle.vector.specs.declared.Vector.{Vector}
 use Rattle.path_splice.specs.Pairs.{pairsOf}
 use Rattle.mesh.specs.Meshes.{faceAt}
 use Rattle.mesh_mode.specs.declared.Mode.{Mode}
-use Rattle.mesh_mode.specs.declared.Mode.the-variants.{Triangles, Polygonal, Silhouette}
+use Rattle.mesh_mode.specs.Modes.{needsOf}
 use Rattle.mesh_seen.specs.Seen.{seenFrom}
 use Rattle.mesh_edges.specs.Edges.{edgesOf}
 use Rattle.mesh_edges.specs.Words.{wordsOf}
@@ -56,17 +56,13 @@ pub record KeptIn (mode : Mode) (seen : List Float) (tolerance : Float) (is s s�
   pub pairs : (flips : List ℕ) → take (5 * length is) s ≡ wordsOf is flips
       → pairsOf (region s′ (5 * length is) (2 * r)) ≡ strokesBy (kept mode (seenIn seen) flips tolerance) is (edgesOf is)
 
--- what is stored of the faces for a mode: triangles need nothing
+-- what is stored of the faces where a mode needs their normals
 unfoldable pub lookIn : Mode → Vector → List Float → List ℕ → List Float → List Float
-lookIn Triangles eye vs is l = l
-lookIn Polygonal eye vs is l = seenFrom eye (faceAt vs is) 0 (length is / 3) l
-lookIn (Silhouette cosine) eye vs is l = seenFrom eye (faceAt vs is) 0 (length is / 3) l
+lookIn mode eye vs is l = cond (needsOf mode .normals) (seenFrom eye (faceAt vs is) 0 (length is / 3) l) l
 
--- the flips that matter to a mode
+-- the flips where a mode needs them
 unfoldable pub flipsFor : Mode → List ℕ → List ℕ
-flipsFor Triangles flips = []
-flipsFor Polygonal flips = []
-flipsFor (Silhouette cosine) flips = flips
+flipsFor mode flips = cond (needsOf mode .flips) flips []
 
 -- what the tests before a drawing promise of a mesh and of what is lent
 pub record Fitting (is : List ℕ) (words numbers room startRoom : ℕ) : Type 0 where

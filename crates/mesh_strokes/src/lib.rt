@@ -5,6 +5,7 @@ use mesh_edges::edge_end;
 use mesh_edges::edges;
 use mesh_keep::kept;
 use mesh_mode::Mode;
+use mesh_mode::needs_of;
 use mesh_seen::clear_seen;
 use mesh_seen::see;
 use order::clear;
@@ -95,39 +96,29 @@ fn keep_edges(mode: Mode, seen: &[f64], indices: &[u32], s: &mut [u32], toleranc
     m
 }
 
-// Stores what the mode needs to know of the faces; for triangles that is nothing.
+// Stores what is seen of the faces where the mode needs their normals.
 fn look(mode: Mode, vertices: &[f64], indices: &[u32], eye: Vector, seen: &mut [f64])
     requires { ⌜ length (now indices) / 3 ≤ mostFaces ⌝ }
     requires { ⌜ allBelow (length (now vertices) / 3) (now indices) ≡ true ⌝ }
     ensures { λ _. ⌜ now (seen .exit) ≡ lookIn mode eye (now (vertices .entry)) (now (indices .entry)) (now (seen .entry)) ⌝ }
 {
     let n = (indices.len() / 3) as u32;
-    match mode {
-        Mode::Triangles => {}
-        Mode::Polygonal => {
-            see(vertices, indices, eye, n, seen);
-        }
-        Mode::Silhouette(_) => {
-            see(vertices, indices, eye, n, seen);
-        }
+    let needs = needs_of(mode);
+    if needs.normals {
+        see(vertices, indices, eye, n, seen);
     }
 }
 
-// Writes the sides by their pairs, with the flips that matter to the mode.
+// Writes the sides by their pairs, with the flips where the mode needs them.
 fn list_edges(mode: Mode, indices: &[u32], flips: &[u32], s: &mut [u32])
     ensures { λ _. ⌜ now (s .exit) ≡ edgesIn (now (s .entry)) (now (indices .entry)) (flipsFor mode (now (flips .entry))) ⌝ }
 {
-    match mode {
-        Mode::Triangles => {
-            edges(indices, &flips[..0], s);
-        }
-        Mode::Polygonal => {
-            edges(indices, &flips[..0], s);
-        }
-        Mode::Silhouette(_) => {
-            edges(indices, flips, s);
-        }
+    let needs = needs_of(mode);
+    if needs.flips {
+        edges(indices, flips, s);
+        return;
     }
+    edges(indices, &flips[..0], s);
 }
 
 // Draws into room that is there: the sides by their pairs, the kept edges after them, spliced.

@@ -17,7 +17,7 @@ use Rattle.path.proofs.Tests.{both}
 use Rattle.path.proofs.Gathers.{length-gather, gather-drop}
 use Rattle.path.proofs.Pushes.{length-starts}
 use Rattle.mesh.specs.Meshes.{allBelow}
-use Rattle.sheet.specs.Sheets.{bytesOf, bytesAll, wordAt, headerOf, wordsOf, sheetOf, sizeOf, strokesIn, modeIn, verticesIn, strokeCount, pointCount, startsIn, numbersIn, modeGood, countsGood, placesGood, strictFrom, tableGood, headerGood, isSheet}
+use Rattle.sheet.specs.Sheets.{modePlace, verticesPlace, strokesPlace, pointsPlace, startsOffset, numbersOffset, headerWords, numbersFrom, bytesOf, bytesAll, wordAt, headerOf, wordsOf, sheetOf, sizeOf, strokesIn, modeIn, verticesIn, strokeCount, pointCount, startsIn, numbersIn, modeGood, countsGood, placesGood, strictFrom, tableGood, headerGood, isSheet}
 use Rattle.sheet.proofs.Sizes.{words-size}
 use Rattle.sheet.proofs.Modes.{good-most}
 use Rattle.path.proofs.Again.{gather-add, gather-all, joined-all, strokes-again}
@@ -160,42 +160,42 @@ module _ (m v : ℕ) (ks ns : List ℕ) (S : Sound m v ks ns) where
       let h = few in
       let a = below-more (length ns) wordLimit ks (omega arith) (table-below (length ns) ks (S .table)) in
       let b = below-more v wordLimit ns (omega arith) (S .below) in
-      rw (lt-ltb m wordLimit (omega arith), lt-ltb v wordLimit (omega arith), lt-ltb (length ks) wordLimit (omega arith), lt-ltb (length ns) wordLimit (omega arith), lt-ltb (24 + 4 * length ks) wordLimit (omega arith), below-both wordLimit ks ns a b)
+      rw (lt-ltb m wordLimit (omega arith), lt-ltb v wordLimit (omega arith), lt-ltb (length ks) wordLimit (omega arith), lt-ltb (length ns) wordLimit (omega arith), lt-ltb (4 * numbersFrom (length ks)) wordLimit (omega arith), below-both wordLimit ks ns a b)
 
-  word-is : (k : ℕ) → k < 6 → wordAt Bytes k ≡ getD (wordsOf m v ks ns) k 0
+  word-is : (k : ℕ) → k < headerWords → wordAt Bytes k ≡ getD (wordsOf m v ks ns) k 0
   unfolding headerOf
   word-is k h = word-back (wordsOf m v ks ns) k all-words (omega arith)
 
   pub mode-back : modeIn Bytes ≡ m
   unfolding headerOf
-  mode-back = word-is 0 (omega arith)
+  mode-back = word-is modePlace (omega arith)
 
   pub vertices-back : verticesIn Bytes ≡ v
   unfolding headerOf
-  vertices-back = word-is 1 (omega arith)
+  vertices-back = word-is verticesPlace (omega arith)
 
   pub strokes-back : strokeCount Bytes ≡ length ks
   unfolding headerOf
-  strokes-back = word-is 2 (omega arith)
+  strokes-back = word-is strokesPlace (omega arith)
 
   pub points-back : pointCount Bytes ≡ length ns
   unfolding headerOf
-  points-back = word-is 3 (omega arith)
+  points-back = word-is pointsPlace (omega arith)
 
   pub starts-back : startsIn Bytes ≡ ks
   unfolding startsIn headerOf
-  starts-back = rw strokes-back (part-back (headerOf m v (length ks) (length ns)) ks ns 6 refl all-words)
+  starts-back = rw strokes-back (part-back (headerOf m v (length ks) (length ns)) ks ns headerWords refl all-words)
 
   pub numbers-back : numbersIn Bytes ≡ ns
   unfolding numbersIn headerOf
   numbers-back =
       let h = headerOf m v (length ks) (length ns) in
       let e : h ++ (ks ++ ns) ≡ (h ++ ks) ++ (ns ++ []) = rw (append-nil ns, append-assoc h ks ns) in
-      rw (strokes-back, points-back) (rw (← e) at (part-back (h ++ ks) ns [] (6 + length ks) (omega arith) (rw (← e) all-words)))
+      rw (strokes-back, points-back) (rw (← e) at (part-back (h ++ ks) ns [] (numbersFrom (length ks)) (omega arith) (rw (← e) all-words)))
 
   places-back : placesGood Bytes (length ks) (length ns) ≡ true
   unfolding placesGood headerOf
-  places-back = rw (eq-eqb _ 24 (word-is 4 (omega arith)), eq-eqb _ (24 + 4 * length ks) (word-is 5 (omega arith)), eq-eqb _ (sizeOf (length ks) (length ns)) (words-size m v ks ns))
+  places-back = rw (eq-eqb _ (4 * headerWords) (word-is startsOffset (omega arith)), eq-eqb _ (4 * numbersFrom (length ks)) (word-is numbersOffset (omega arith)), eq-eqb _ (sizeOf (length ks) (length ns)) (words-size m v ks ns))
 
   pub is-sheet : isSheet Bytes ≡ true
   unfolding isSheet headerGood
@@ -225,8 +225,8 @@ module _ (m v : ℕ) (ss : List (List ℕ)) (hm : modeGood m ≡ true) (hc : cou
 pub record Tested (bs : List ℕ) : Type 0 where
   pub mode : modeGood (modeIn bs) ≡ true
   pub counts : countsGood (verticesIn bs) (strokeCount bs) (pointCount bs) ≡ true
-  pub starts-at : wordAt bs 4 ≡ 24
-  pub numbers-at : wordAt bs 5 ≡ 24 + 4 * strokeCount bs
+  pub starts-at : wordAt bs startsOffset ≡ 4 * headerWords
+  pub numbers-at : wordAt bs numbersOffset ≡ 4 * numbersFrom (strokeCount bs)
   pub size : length bs ≡ sizeOf (strokeCount bs) (pointCount bs)
   pub table : tableGood (pointCount bs) (startsIn bs) ≡ true
   pub below : allBelow (verticesIn bs) (numbersIn bs) ≡ true
@@ -240,27 +240,27 @@ tested bs h =
     let b = both (headerGood bs) (tableGood p (startsIn bs)) (a .0) in
     let d = both (modeGood (modeIn bs) && countsGood (verticesIn bs) s p) (placesGood bs s p) (b .0) in
     let e = both (modeGood (modeIn bs)) (countsGood (verticesIn bs) s p) (d .0) in
-    let f = both (eqb (wordAt bs 4) 24 && eqb (wordAt bs 5) (24 + 4 * s)) (eqb (length bs) (sizeOf s p)) (d .1) in
-    let g = both (eqb (wordAt bs 4) 24) (eqb (wordAt bs 5) (24 + 4 * s)) (f .0) in
+    let f = both (eqb (wordAt bs startsOffset) (4 * headerWords) && eqb (wordAt bs numbersOffset) (4 * numbersFrom s)) (eqb (length bs) (sizeOf s p)) (d .1) in
+    let g = both (eqb (wordAt bs startsOffset) (4 * headerWords)) (eqb (wordAt bs numbersOffset) (4 * numbersFrom s)) (f .0) in
     record { mode = e .0; counts = e .1; starts-at = eqb-true _ _ (g .0); numbers-at = eqb-true _ _ (g .1); size = eqb-true _ _ (f .1); table = b .1; below = a .1 }
 
 module _ (bs : List ℕ) (hb : allBelow 256 bs ≡ true) (h : isSheet bs ≡ true) where
   -- the words are the header's, the starts and the numbers
-  words-are : gather (wordAt bs) 0 (6 + (strokeCount bs + pointCount bs)) ≡ wordsOf (modeIn bs) (verticesIn bs) (startsIn bs) (numbersIn bs)
+  words-are : gather (wordAt bs) 0 (headerWords + (strokeCount bs + pointCount bs)) ≡ wordsOf (modeIn bs) (verticesIn bs) (startsIn bs) (numbersIn bs)
   unfolding gather headerOf startsIn numbersIn
   words-are =
       let t = tested bs h in
       let s = strokeCount bs in
       let p = pointCount bs in
       let at = wordAt bs in
-      gather-add at 0 6 (s + p) ∙ ap (λ (l : List ℕ). gather at 0 6 ++ l) (gather-add at 6 s p)
-      ∙ rw (length-gather at 6 s, length-gather at (6 + s) p, t .starts-at, t .numbers-at)
+      gather-add at 0 headerWords (s + p) ∙ ap (λ (l : List ℕ). gather at 0 headerWords ++ l) (gather-add at headerWords s p)
+      ∙ rw (length-gather at headerWords s, length-gather at (numbersFrom s) p, t .starts-at, t .numbers-at)
 
   pub write-back : sheetOf (modeIn bs) (verticesIn bs) (strokesIn (numbersIn bs) (startsIn bs)) ≡ bs
   unfolding sheetOf numbersIn
   write-back =
       let t = tested bs h in
-      let e : length (numbersIn bs) ≡ pointCount bs = length-gather (wordAt bs) (6 + strokeCount bs) (pointCount bs) in
+      let e : length (numbersIn bs) ≡ pointCount bs = length-gather (wordAt bs) (numbersFrom (strokeCount bs)) (pointCount bs) in
       let g = table-good (length (numbersIn bs)) (startsIn bs) (rw e (t .table)) in
       let k = kept-all (numberAt (numbersIn bs)) (length (numbersIn bs)) (startsIn bs) (g .0) ∙ g .1 in
-      rw (k, joined-all (numbersIn bs) (startsIn bs) (g .0)) (ap bytesAll (sym words-are) ∙ bytes-back bs (6 + (strokeCount bs + pointCount bs)) (omega (arith, t .size)) hb)
+      rw (k, joined-all (numbersIn bs) (startsIn bs) (g .0)) (ap bytesAll (sym words-are) ∙ bytes-back bs (headerWords + (strokeCount bs + pointCount bs)) (omega (arith, t .size)) hb)

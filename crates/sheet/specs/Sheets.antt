@@ -1,16 +1,13 @@
 -- A sheet: strokes of vertex numbers as bytes, in words of four bytes, the lowest byte first.
-use mathlib.Core.Bool.{Bool, true, _&&_}
+use mathlib.Core.Bool.{Bool, true, _&&_, cond}
 use mathlib.Core.List.{List, [], _∷_, _++_}
-use Prim.Native.Nat.{ℕ, _+_, _*_, _/_, _%_}
+use Prim.Native.Nat.{ℕ, zero, suc, _+_, _*_, _/_, _%_}
 use lib.ListN.{length, getD}
 use lib.Dec.{leb, ltb, eqb}
 use Rattle.refusal.specs.Limits.{mostVertices, mostStrokes, mostPoints}
-use Rattle.vector.specs.Lengths.{zero64}
 use Rattle.path.specs.Strokes.{gather, strokesOf, numberAt}
 use Rattle.path.specs.Laid.{nonEmpty, joined, startsFrom}
 use Rattle.mesh.specs.Meshes.{allBelow}
-use Rattle.mesh_mode.specs.declared.Mode.{Mode}
-use Rattle.mesh_mode.specs.Modes.{modeBy, modeNumber}
 
 -- the four bytes of a word
 unfoldable pub bytesOf : ℕ → List ℕ
@@ -29,11 +26,39 @@ wordAt bs k = getD bs (k * 4) 0 + 256 * getD bs (k * 4 + 1) 0 + 65536 * getD bs 
 abbrev pub strokesIn : List ℕ → List ℕ → List (List ℕ)
 strokesIn ns ss = strokesOf (numberAt ns) (length ns) ss
 
+-- ---- the places of the words
+
+-- the header: mode and counts, then the offsets in bytes of starts and numbers
+abbrev pub modePlace : ℕ
+modePlace = 0
+
+abbrev pub verticesPlace : ℕ
+verticesPlace = 1
+
+abbrev pub strokesPlace : ℕ
+strokesPlace = 2
+
+abbrev pub pointsPlace : ℕ
+pointsPlace = 3
+
+abbrev pub startsOffset : ℕ
+startsOffset = 4
+
+abbrev pub numbersOffset : ℕ
+numbersOffset = 5
+
+-- the starts follow the header
+abbrev pub headerWords : ℕ
+headerWords = 6
+
+-- the numbers follow what each stroke has before them: one word, its start
+abbrev pub numbersFrom : ℕ → ℕ
+numbersFrom strokes = headerWords + strokes
+
 -- ---- what is written
 
--- the header: mode, vertices, strokes, points, and the offsets of starts and points in bytes
 unfoldable pub headerOf : ℕ → ℕ → ℕ → ℕ → List ℕ
-headerOf mode vertices strokes points = mode ∷ vertices ∷ strokes ∷ points ∷ 24 ∷ (24 + 4 * strokes) ∷ []
+headerOf mode vertices strokes points = mode ∷ vertices ∷ strokes ∷ points ∷ 4 * headerWords ∷ 4 * numbersFrom strokes ∷ []
 
 -- header, starts, vertex numbers, nothing more
 abbrev pub wordsOf : ℕ → ℕ → List ℕ → List ℕ → List ℕ
@@ -45,42 +70,36 @@ sheetOf mode vertices ss = bytesAll (wordsOf mode vertices (startsFrom 0 (nonEmp
 
 -- how many bytes a sheet of so many strokes and points has
 abbrev pub sizeOf : ℕ → ℕ → ℕ
-sizeOf strokes points = 24 + 4 * strokes + 4 * points
+sizeOf strokes points = 4 * (numbersFrom strokes + points)
 
 -- ---- what is read
 
--- the header's words: mode, vertices, strokes, points
 abbrev pub modeIn : List ℕ → ℕ
-modeIn bs = wordAt bs 0
+modeIn bs = wordAt bs modePlace
 
 abbrev pub verticesIn : List ℕ → ℕ
-verticesIn bs = wordAt bs 1
+verticesIn bs = wordAt bs verticesPlace
 
 abbrev pub strokeCount : List ℕ → ℕ
-strokeCount bs = wordAt bs 2
+strokeCount bs = wordAt bs strokesPlace
 
 abbrev pub pointCount : List ℕ → ℕ
-pointCount bs = wordAt bs 3
+pointCount bs = wordAt bs pointsPlace
 
--- the starts begin at word 6, byte 24; the vertex numbers follow
 unfoldable pub startsIn : List ℕ → List ℕ
-startsIn bs = gather (wordAt bs) 6 (strokeCount bs)
+startsIn bs = gather (wordAt bs) headerWords (strokeCount bs)
 
 unfoldable pub numbersIn : List ℕ → List ℕ
-numbersIn bs = gather (wordAt bs) (6 + strokeCount bs) (pointCount bs)
+numbersIn bs = gather (wordAt bs) (numbersFrom (strokeCount bs)) (pointCount bs)
 
--- the number of the mode in an answer, 0 where there is none
-abbrev pub numberIn : List Mode → ℕ
-numberIn [] = 0
-numberIn (m ∷ ms) = modeNumber m
-
--- the number that is stored of a mode number: that of the mode that it stands for, 0 where it stands for none
-unfoldable pub modeWord : ℕ → ℕ
-modeWord n = numberIn (modeBy n zero64 .values)
-
--- a number that is stored of some mode: 0 is not
+-- the mode numbers that a sheet has: 1, 2 and 3
 unfoldable pub modeGood : ℕ → Bool
-modeGood m = ltb 0 m && eqb (modeWord m) m
+modeGood m = leb m 3 && ltb 0 m
+
+-- the one that is stored of a mode number, 0 where a sheet has none; mode 0, not said, is stored as triangles
+unfoldable pub modeWord : ℕ → ℕ
+modeWord zero = 1
+modeWord (suc n) = cond (modeGood (suc n)) (suc n) 0
 
 -- vertices, strokes and points within their limits
 unfoldable pub countsGood : ℕ → ℕ → ℕ → Bool
@@ -88,7 +107,7 @@ countsGood vertices strokes points = leb vertices mostVertices && leb strokes mo
 
 -- the offsets of starts and points, and the length to the byte: nothing is missing and nothing follows
 unfoldable pub placesGood : List ℕ → ℕ → ℕ → Bool
-placesGood bs strokes points = eqb (wordAt bs 4) 24 && eqb (wordAt bs 5) (24 + 4 * strokes) && eqb (length bs) (sizeOf strokes points)
+placesGood bs strokes points = eqb (wordAt bs startsOffset) (4 * headerWords) && eqb (wordAt bs numbersOffset) (4 * numbersFrom strokes) && eqb (length bs) (sizeOf strokes points)
 
 -- a header that fits the bytes
 unfoldable pub headerGood : List ℕ → Bool

@@ -1,7 +1,5 @@
-// What writing and reading a sheet share: words in bytes, the lowest byte first, the numbers of the modes, and the limits of counts.
-use mesh_mode::Moded;
-use mesh_mode::mode_of;
-use mesh_mode::number_of;
+// What writing and reading a sheet share: words in bytes, the lowest byte first, the places of the header's words, the mode
+// numbers that a sheet has, and the limits of counts.
 use refusal::MOST_POINTS;
 use refusal::MOST_STROKES;
 use refusal::MOST_VERTICES;
@@ -9,7 +7,23 @@ ghost use mathlib.Core.Path.{_≡_};
 ghost use Prim.Native.Nat.{_*_, _<_};
 ghost use lib.ListN.{getD, set};
 ghost use lib.Seq.{sets};
-ghost use Rattle.sheet.specs.Sheets.{bytesOf, wordAt, modeWord, countsGood};
+ghost use Rattle.sheet.specs.Sheets.{bytesOf, wordAt, numbersFrom, modeGood, modeWord, countsGood};
+
+// The places of the header's words: mode and counts, then the offsets in bytes of starts and numbers.
+pub const MODE: usize = 0;
+
+pub const VERTICES: usize = 1;
+
+pub const STROKES: usize = 2;
+
+pub const POINTS: usize = 3;
+
+pub const STARTS_OFFSET: usize = 4;
+
+pub const NUMBERS_OFFSET: usize = 5;
+
+// How many words the header has; the starts follow.
+pub const HEADER_WORDS: usize = 6;
 
 // The byte at place i, 0 past the end.
 fn byte_at(bytes: &[u8], i: usize) -> u32
@@ -59,15 +73,34 @@ pub fn put_word(out: &mut [u8], k: usize, w: u32)
     }
 }
 
-// The number that a sheet stores of a mode number, 0 where no mode has it. The cosine is not stored, so any will do.
+// The place of the first number in a sheet of so many strokes: each has one word before the numbers, its start.
+pub fn numbers_from(strokes: u32) -> usize
+    ensures { λ r. ⌜ r ≡ numbersFrom strokes ⌝ }
+{
+    HEADER_WORDS + strokes as usize
+}
+
+// Whether a sheet may have a mode number in its header: 1, 2 and 3.
+pub fn mode_good(mode: u32) -> bool
+    ensures { λ r. ⌜ r ≡ modeGood mode ⌝ }
+{
+    if 3 < mode {
+        return false;
+    }
+    0 < mode
+}
+
+// The number that a sheet stores of a mode number, 0 where it has none; mode 0, not said, is stored as triangles.
 pub fn mode_word(mode: u32) -> u32
     ensures { λ r. ⌜ r ≡ modeWord mode ⌝ }
 {
-    let m = mode_of(mode, 0.0);
-    match m {
-        Moded::Of(it) => number_of(it),
-        Moded::Refused(_) => 0,
+    if mode == 0 {
+        return 1;
     }
+    if mode_good(mode) {
+        return mode;
+    }
+    0
 }
 
 // Whether vertices, strokes and points are within their limits.

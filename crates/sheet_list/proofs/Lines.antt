@@ -16,7 +16,7 @@ use Rattle.path.proofs.Starts.{getD-any, table-next}
 use Rattle.path.proofs.Pushes.{ink-none, ink-place}
 use Rattle.path.proofs.Points.{numbers-lie}
 use Rattle.path.proofs.Gathers.{length-gather, strokes-more, strokes-none}
-use Rattle.sheet.specs.Sheets.{wordAt, strokesIn, strokeCount, pointCount, startsIn, numbersIn, isSheet}
+use Rattle.sheet.specs.Sheets.{headerWords, numbersFrom, wordAt, modeIn, verticesIn, strokesIn, strokeCount, pointCount, startsIn, numbersIn, isSheet}
 use Rattle.sheet.proofs.Sizes.{limits}
 use Rattle.path.proofs.Again.{joined-all, strokes-count}
 use Rattle.sheet.proofs.Tables.{table-good}
@@ -30,10 +30,10 @@ unfolding gather
 gather-shift f b a zero = refl
 gather-shift f b a (suc n) = let e : b + a + 1 ≡ b + (a + 1) = omega arith in rw (e, gather-shift f b (a + 1) n)
 
-pub numbers-are : (bs : List ℕ) (strokes a e x y : ℕ) → x ≡ a → y ≡ e → gather (wordAt bs) (6 + strokes + x) (6 + strokes + y - (6 + strokes + x)) ≡ numbersAt bs strokes a e
-numbers-are bs strokes a e x y ex ey =
-    let n : 6 + strokes + y - (6 + strokes + x) ≡ y - x = omega arith in
-    rw n (gather-shift (wordAt bs) (6 + strokes) x (y - x) ∙ rw (ex, ey))
+pub numbers-are : (bs : List ℕ) (strokes k a e x y : ℕ) → k ≡ numbersFrom strokes → x ≡ a → y ≡ e → gather (wordAt bs) (k + x) (k + y - (k + x)) ≡ numbersAt bs strokes a e
+numbers-are bs strokes k a e x y ek ex ey =
+    let n : k + y - (k + x) ≡ y - x = omega arith in
+    rw n (gather-shift (wordAt bs) k x (y - x) ∙ rw (ek, ex, ey))
 
 -- one stroke's line, and those after it
 module _ (num : ℕ → ℕ) (n : ℕ) (ss : List ℕ) (b : List ℕ) (k i : ℕ) {all : Pen ℕ} (inv : inked sets (pen b k) (linesOf (strokesOf num n (drop i ss))) ≡ all) where
@@ -70,11 +70,11 @@ same-strokes f g n (s ∷ ss) h t =
 module _ (bs : List ℕ) (h : isSheet bs ≡ true) where
   numbers-count : length (numbersIn bs) ≡ pointCount bs
   unfolding numbersIn
-  numbers-count = length-gather (wordAt bs) (6 + strokeCount bs) (pointCount bs)
+  numbers-count = length-gather (wordAt bs) (numbersFrom (strokeCount bs)) (pointCount bs)
 
   starts-count : length (startsIn bs) ≡ strokeCount bs
   unfolding startsIn
-  starts-count = length-gather (wordAt bs) 6 (strokeCount bs)
+  starts-count = length-gather (wordAt bs) headerWords (strokeCount bs)
 
   good : goodStarts (pointCount bs) (startsIn bs) ≡ true
   good = table-good (pointCount bs) (startsIn bs) (tested bs h .table) .0
@@ -82,7 +82,7 @@ module _ (bs : List ℕ) (h : isSheet bs ≡ true) where
   pub strokes-are : strokesOf (numberIn bs (strokeCount bs)) (pointCount bs) (startsIn bs) ≡ strokesIn (numbersIn bs) (startsIn bs)
   unfolding numbersIn
   strokes-are =
-      let g : (k : ℕ) → k < pointCount bs → numberIn bs (strokeCount bs) k ≡ numberAt (numbersIn bs) k = λ k l. start-in (wordAt bs) (6 + strokeCount bs) (pointCount bs) k 0 l in
+      let g : (k : ℕ) → k < pointCount bs → numberIn bs (strokeCount bs) k ≡ numberAt (numbersIn bs) k = λ k l. start-in (wordAt bs) (numbersFrom (strokeCount bs)) (pointCount bs) k 0 l in
       same-strokes (numberIn bs (strokeCount bs)) (numberAt (numbersIn bs)) (pointCount bs) (startsIn bs) g good ∙ ap (λ (n : ℕ). strokesOf (numberAt (numbersIn bs)) n (startsIn bs)) (sym numbers-count)
 
 -- ---- how long
@@ -133,8 +133,8 @@ listed-size bs h l =
     let c = strokes-count (numberAt ns) (length ns) ss in
     let k = starts-count bs h in
     let r = lines-size (strokesIn ns ss) in
-    let first = line-size (wordAt bs 0 ∷ wordAt bs 1 ∷ strokeCount bs ∷ pointCount bs ∷ []) in
-    omega (arith, length-append (lineOf (wordAt bs 0 ∷ wordAt bs 1 ∷ strokeCount bs ∷ pointCount bs ∷ [])) (linesOf (strokesIn ns ss)))
+    let first = line-size (modeIn bs ∷ verticesIn bs ∷ strokeCount bs ∷ pointCount bs ∷ []) in
+    omega (arith, length-append (lineOf (modeIn bs ∷ verticesIn bs ∷ strokeCount bs ∷ pointCount bs ∷ [])) (linesOf (strokesIn ns ss)))
 
 pub refused-size : (n : ℕ) → length (refusedText n) ≤ 196608
 unfolding refusedText
@@ -144,10 +144,10 @@ refused-size n = let l = line-size (n ∷ []) in omega arith
 
 -- the lines of all strokes after line one
 pub listed-put : (bs b : List ℕ) → isSheet bs ≡ true → (s p : ℕ) → s ≡ strokeCount bs → p ≡ pointCount bs → (b₁ b₂ : List ℕ) (k₁ k₂ : ℕ) → pen b₁ k₁ ≡ inked sets (pen b 0) (lineOf (gather (wordAt bs) 0 4))
-    → pen b₂ k₂ ≡ inked sets (pen b₁ k₁) (linesOf (strokesOf (numberIn bs s) p (gather (wordAt bs) 6 s))) → pen b₂ k₂ ≡ inked sets (pen b 0) (listed bs)
+    → pen b₂ k₂ ≡ inked sets (pen b₁ k₁) (linesOf (strokesOf (numberIn bs s) p (gather (wordAt bs) headerWords s))) → pen b₂ k₂ ≡ inked sets (pen b 0) (listed bs)
 unfolding listed gather startsIn
 listed-put bs b h s p es ep b₁ b₂ k₁ k₂ e₁ e₂ =
-    let g : strokesOf (numberIn bs s) p (gather (wordAt bs) 6 s) ≡ strokesIn (numbersIn bs) (startsIn bs) = rw (es, ep) (strokes-are bs h) in
+    let g : strokesOf (numberIn bs s) p (gather (wordAt bs) headerWords s) ≡ strokesIn (numbersIn bs) (startsIn bs) = rw (es, ep) (strokes-are bs h) in
     e₂ ∙ ap (λ (l : List (List ℕ)). inked sets (pen b₁ k₁) (linesOf l)) g ∙ ink-two b 0 _ _ e₁
 
 -- how long what is written is

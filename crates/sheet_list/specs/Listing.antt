@@ -6,7 +6,7 @@ use lib.ListN.{length}
 use lib.Dec.{leb, ltb}
 use Rattle.path.specs.Strokes.{gather}
 use Rattle.path.specs.Laid.{joined}
-use Rattle.sheet.specs.Sheets.{wordAt, strokesIn, modeIn, verticesIn, strokeCount, pointCount, startsIn, numbersIn, isSheet}
+use Rattle.sheet.specs.Sheets.{numbersFrom, wordAt, strokesIn, modeIn, verticesIn, strokeCount, pointCount, startsIn, numbersIn, isSheet}
 
 -- the power of ten of n's first digit, from the power p on, at most f powers up
 unfoldable pub topFrom : ℕ → ℕ → ℕ → ℕ
@@ -38,7 +38,7 @@ linesOf ss = joined (map lineOf ss)
 
 -- the vertex number at a place, of a sheet of so many strokes, and those from a place up to another
 abbrev pub numberIn : List ℕ → ℕ → ℕ → ℕ
-numberIn bs strokes k = wordAt bs (6 + strokes + k)
+numberIn bs strokes k = wordAt bs (numbersFrom strokes + k)
 
 abbrev pub numbersAt : List ℕ → ℕ → ℕ → ℕ → List ℕ
 numbersAt bs strokes a e = gather (numberIn bs strokes) a (e - a)

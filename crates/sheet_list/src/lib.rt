@@ -1,6 +1,12 @@
 // The text of a sheet: a line of mode, vertices, strokes and points, then a line a stroke.
 use refusal::Refusal;
 use refusal::number;
+use sheet::HEADER_WORDS;
+use sheet::MODE;
+use sheet::POINTS;
+use sheet::STARTS_OFFSET;
+use sheet::STROKES;
+use sheet::numbers_from;
 use sheet::put_byte;
 use sheet::put_word;
 use sheet::word_at;
@@ -13,7 +19,7 @@ ghost use lib.Seq.{sets};
 ghost use Rattle.path.specs.Strokes.{gather, strokesOf};
 ghost use Rattle.path.specs.Laid.{pen, inked};
 ghost use Rattle.refusal.specs.Limits.{mostStrokes};
-ghost use Rattle.sheet.specs.Sheets.{wordAt, isSheet};
+ghost use Rattle.sheet.specs.Sheets.{headerWords, wordAt, isSheet};
 ghost use Rattle.sheet_list.specs.Listing.{topFrom, digitsFrom, decimal, spaced, lineOf, linesOf, numberIn, numbersAt, listed, refusedText, textOf};
 
 // The most bytes that are listed.
@@ -96,10 +102,10 @@ fn write_line(bytes: &[u8], a: usize, e: usize, out: &mut [u8], k: usize) -> usi
 // The start of stroke i, of so many strokes and points; past the last the point count.
 fn start_at(bytes: &[u8], i: usize, strokes: usize, points: u32) -> usize
     requires { ⌜ strokes ≤ mostStrokes ⌝ }
-    ensures { λ r. ⌜ (r ≡ getD (gather (wordAt (now (bytes .entry))) 6 strokes) i points) × (r ≤ 0xffff_ffff) ⌝ }
+    ensures { λ r. ⌜ (r ≡ getD (gather (wordAt (now (bytes .entry))) headerWords strokes) i points) × (r ≤ 0xffff_ffff) ⌝ }
 {
     if i < strokes {
-        return word_at(bytes, 6 + i) as usize;
+        return word_at(bytes, HEADER_WORDS + i) as usize;
     }
     points as usize
 }
@@ -115,18 +121,18 @@ fn write_stroke(
 ) -> usize
     requires { ⌜ (i ≤ mostStrokes) × (strokes ≤ mostStrokes) × (k ≤ 0x1000_0000_0000_0000) ⌝ }
     ensures { λ r. ⌜ (pen (now (out .exit)) r ≡ inked sets (pen (now (out .entry)) k) (lineOf (numbersAt (now (bytes .entry)) strokes
-        (getD (gather (wordAt (now (bytes .entry))) 6 strokes) i points) (getD (gather (wordAt (now (bytes .entry))) 6 strokes) (i + 1) points)))) × (r ≤ k + 0x17_0000_0000) ⌝ }
+        (getD (gather (wordAt (now (bytes .entry))) headerWords strokes) i points) (getD (gather (wordAt (now (bytes .entry))) headerWords strokes) (i + 1) points)))) × (r ≤ k + 0x17_0000_0000) ⌝ }
 {
     let a = start_at(bytes, i, strokes, points);
     let e = start_at(bytes, i + 1, strokes, points);
-    let b = 6 + strokes;
+    let b = numbers_from(strokes as u32);
     write_line(bytes, b + a, b + e, out, k)
 }
 
 // Stores the lines of all strokes.
 fn write_strokes(bytes: &[u8], strokes: usize, points: u32, out: &mut [u8], k: usize) -> usize
     requires { ⌜ (strokes ≤ mostStrokes) × (k ≤ 0x4000_0000_0000) ⌝ }
-    ensures { λ r. ⌜ pen (now (out .exit)) r ≡ inked sets (pen (now (out .entry)) k) (linesOf (strokesOf (numberIn (now (bytes .entry)) strokes) points (gather (wordAt (now (bytes .entry))) 6 strokes))) ⌝ }
+    ensures { λ r. ⌜ pen (now (out .exit)) r ≡ inked sets (pen (now (out .entry)) k) (linesOf (strokesOf (numberIn (now (bytes .entry)) strokes) points (gather (wordAt (now (bytes .entry))) headerWords strokes))) ⌝ }
 {
     let mut i: usize = 0;
     let mut at = k;
@@ -153,9 +159,9 @@ fn write_listed(bytes: &[u8], out: &mut [u8]) -> usize
     requires { ⌜ isSheet (now bytes) ≡ true ⌝ }
     ensures { λ r. ⌜ pen (now (out .exit)) r ≡ inked sets (pen (now (out .entry)) 0) (listed (now (bytes .entry))) ⌝ }
 {
-    let k = write_line(bytes, 0, 4, out, 0);
-    let strokes = word_at(bytes, 2) as usize;
-    write_strokes(bytes, strokes, word_at(bytes, 3), out, k)
+    let k = write_line(bytes, MODE, STARTS_OFFSET, out, 0);
+    let strokes = word_at(bytes, STROKES) as usize;
+    write_strokes(bytes, strokes, word_at(bytes, POINTS), out, k)
 }
 
 // Stores the text that lists the bytes, as far as there is room, and answers how long it is.

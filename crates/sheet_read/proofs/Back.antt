@@ -8,18 +8,18 @@ use Rattle.refusal.specs.Refusals.{unless}
 use Rattle.refusal.specs.Said.{accepted}
 use Rattle.path.specs.Laid.{over}
 use Rattle.path.proofs.Gathers.{length-gather}
-use Rattle.sheet.specs.Sheets.{wordAt, strokeCount, pointCount, startsIn, numbersIn}
+use Rattle.sheet.specs.Sheets.{headerWords, numbersFrom, wordAt, strokeCount, pointCount, startsIn, numbersIn}
 use Rattle.sheet.proofs.Back.{Readable}
 use Rattle.sheet_read.specs.Read.{roomFor, verdictOf, left, leftBy, readLeft}
 
 module _ (m v : ℕ) (ks ns bs on os : List ℕ) (R : Readable m v ks ns bs) (hn : length ns ≤ length on) (hs : length ks ≤ length os) where
   points : pointCount bs ≡ length ns
   unfolding numbersIn
-  points = sym (length-gather (wordAt bs) (6 + strokeCount bs) (pointCount bs)) ∙ ap length (R .numbers)
+  points = sym (length-gather (wordAt bs) (numbersFrom (strokeCount bs)) (pointCount bs)) ∙ ap length (R .numbers)
 
   strokes : strokeCount bs ≡ length ks
   unfolding startsIn
-  strokes = sym (length-gather (wordAt bs) 6 (strokeCount bs)) ∙ ap length (R .starts)
+  strokes = sym (length-gather (wordAt bs) headerWords (strokeCount bs)) ∙ ap length (R .starts)
 
   pub read-written : readLeft bs on os ≡ left (accepted (length ns ∷ length ks ∷ m ∷ v ∷ [])) (over on ns) (over os ks)
   unfolding readLeft verdictOf roomFor unless leftBy

@@ -19,7 +19,7 @@ use Rattle.path.proofs.Tests.{passed, both}
 use Rattle.path.proofs.Pushes.{over-sets}
 use Rattle.path.proofs.Gathers.{length-gather}
 use Rattle.mesh.specs.Meshes.{allBelow}
-use Rattle.sheet.specs.Sheets.{wordAt, modeIn, verticesIn, strokeCount, pointCount, startsIn, numbersIn, modeGood, countsGood, placesGood, tableGood, headerGood, isSheet}
+use Rattle.sheet.specs.Sheets.{headerWords, numbersFrom, wordAt, modeIn, verticesIn, strokeCount, pointCount, startsIn, numbersIn, modeGood, countsGood, placesGood, tableGood, headerGood, isSheet}
 use Rattle.sheet_read.specs.Read.{roomFor, verdictOf, left, leftBy}
 use Rattle.sheet.proofs.Sizes.{limits}
 
@@ -32,13 +32,13 @@ header-limits bs h =
 
 -- the tests of starts and numbers, by the words that the code has read
 module _ (bs : List ℕ) (s n : ℕ) (es : s ≡ strokeCount bs) (en : n ≡ pointCount bs) where
-  pub table-is : tableGood n (gather (wordAt bs) 6 s) ≡ tableGood (pointCount bs) (startsIn bs)
+  pub table-is : tableGood n (gather (wordAt bs) headerWords s) ≡ tableGood (pointCount bs) (startsIn bs)
   unfolding startsIn
   table-is = rw (es, en)
 
-  pub below-is : (v : ℕ) → v ≡ verticesIn bs → allBelow v (gather (wordAt bs) (6 + s) (6 + s + n - (6 + s))) ≡ allBelow (verticesIn bs) (numbersIn bs)
+  pub below-is : (k v : ℕ) → k ≡ numbersFrom s → v ≡ verticesIn bs → allBelow v (gather (wordAt bs) k (k + n - k)) ≡ allBelow (verticesIn bs) (numbersIn bs)
   unfolding numbersIn
-  below-is v ev = let e : 6 + s + n - (6 + s) ≡ n = omega arith in rw e (rw (es, en, ev))
+  below-is k v ek ev = let e : k + n - k ≡ n = omega arith in rw e (rw (ek, es, en, ev))
 
 -- what an accepted call has been tested for
 pub record Granted (bs : List ℕ) (room startRoom : ℕ) : Type 0 where
@@ -61,13 +61,13 @@ module _ (v : Verdict) (bs on os : List ℕ) where
   unfolding leftBy
   refuse r e = rw (← e)
 
-  pub accept : v ≡ Accepted → pointCount bs ≤ length on → strokeCount bs ≤ length os → (m n s p : ℕ) → m ≡ modeIn bs → n ≡ verticesIn bs → s ≡ strokeCount bs → p ≡ pointCount bs
-      → (on′ os′ : List ℕ) → on′ ≡ sets on 0 (gather (wordAt bs) (6 + s) p) → os′ ≡ sets os 0 (gather (wordAt bs) 6 s)
+  pub accept : v ≡ Accepted → pointCount bs ≤ length on → strokeCount bs ≤ length os → (m n s p k : ℕ) → m ≡ modeIn bs → n ≡ verticesIn bs → s ≡ strokeCount bs → p ≡ pointCount bs → k ≡ numbersFrom s
+      → (on′ os′ : List ℕ) → on′ ≡ sets on 0 (gather (wordAt bs) k p) → os′ ≡ sets os 0 (gather (wordAt bs) headerWords s)
       → left (accepted (p ∷ s ∷ m ∷ n ∷ [])) on′ os′ ≡ leftBy v bs on os
   unfolding leftBy numbersIn startsIn
-  accept z hp hs m n s p em en es ep on′ os′ e f =
-      let a : on′ ≡ over on (gather (wordAt bs) (6 + strokeCount bs) (pointCount bs)) = rw (es, ep) at e ∙ over-sets on (gather (wordAt bs) (6 + strokeCount bs) (pointCount bs)) (omega (arith, length-gather (wordAt bs) (6 + strokeCount bs) (pointCount bs))) in
-      let b : os′ ≡ over os (gather (wordAt bs) 6 (strokeCount bs)) = rw es at f ∙ over-sets os (gather (wordAt bs) 6 (strokeCount bs)) (omega (arith, length-gather (wordAt bs) 6 (strokeCount bs))) in
+  accept z hp hs m n s p k em en es ep ek on′ os′ e f =
+      let a : on′ ≡ over on (gather (wordAt bs) (numbersFrom (strokeCount bs)) (pointCount bs)) = rw (ek, es, ep) at e ∙ over-sets on (gather (wordAt bs) (numbersFrom (strokeCount bs)) (pointCount bs)) (omega (arith, length-gather (wordAt bs) (numbersFrom (strokeCount bs)) (pointCount bs))) in
+      let b : os′ ≡ over os (gather (wordAt bs) headerWords (strokeCount bs)) = rw es at f ∙ over-sets os (gather (wordAt bs) headerWords (strokeCount bs)) (omega (arith, length-gather (wordAt bs) headerWords (strokeCount bs))) in
       rw z (same-left em en es ep a b)
     where
       same-left : {m m₁ n n₁ s s₁ p p₁ : ℕ} {x x₁ y y₁ : List ℕ} → m ≡ m₁ → n ≡ n₁ → s ≡ s₁ → p ≡ p₁ → x ≡ x₁ → y ≡ y₁ → left (accepted (p ∷ s ∷ m ∷ n ∷ [])) x y ≡ left (accepted (p₁ ∷ s₁ ∷ m₁ ∷ n₁ ∷ [])) x₁ y₁

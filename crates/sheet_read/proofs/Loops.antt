@@ -12,7 +12,7 @@ use borrow.Author.Tests.{le-ltb, lt-ltb, eq-eqb, ne-eqb}
 use Rattle.path.specs.Strokes.{gather}
 use Rattle.path.proofs.Gathers.{gather-more, gather-none}
 use Rattle.mesh.specs.Meshes.{allBelow}
-use Rattle.sheet.specs.Sheets.{strictFrom, tableGood}
+use Rattle.sheet.specs.Sheets.{headerWords, strictFrom, tableGood}
 
 module _ (at : ℕ → ℕ) (i e : ℕ) where
   -- the starts from word i up to e
@@ -61,25 +61,25 @@ module _ (at : ℕ → ℕ) (a i n : ℕ) where
 
 -- the table of starts, by its first
 module _ (at : ℕ → ℕ) (n k s : ℕ) where
-  pub table-none : k ≡ 0 → tableGood n (gather at 6 k) ≡ eqb n 0
+  pub table-none : k ≡ 0 → tableGood n (gather at headerWords k) ≡ eqb n 0
   unfolding tableGood gather
   table-none e = rw e
 
-  pub table-first : (k ≡ 0 → ⊥) → s ≡ at 6 → (s ≡ 0 → ⊥) → tableGood n (gather at 6 k) ≡ false
+  pub table-first : (k ≡ 0 → ⊥) → s ≡ at headerWords → (s ≡ 0 → ⊥) → tableGood n (gather at headerWords k) ≡ false
   unfolding tableGood gather
   table-first h q z = let e : k ≡ suc (k - 1) = omega arith in rw (e, ← q, ne-eqb s 0 z)
 
-  pub table-past : (k ≡ 0 → ⊥) → s ≡ at 6 → s ≡ 0 → n ≤ s → tableGood n (gather at 6 k) ≡ false
+  pub table-past : (k ≡ 0 → ⊥) → s ≡ at headerWords → s ≡ 0 → n ≤ s → tableGood n (gather at headerWords k) ≡ false
   unfolding tableGood gather
   table-past h q z l = let e : k ≡ suc (k - 1) = omega arith in rw (e, ← q, eq-eqb s 0 z, le-ltb s n l)
 
-  pub table-more : (k ≡ 0 → ⊥) → s ≡ at 6 → s ≡ 0 → s < n → strictFrom n s (gather at 7 (6 + k - 7)) ≡ tableGood n (gather at 6 k)
+  pub table-more : (k ≡ 0 → ⊥) → s ≡ at headerWords → s ≡ 0 → s < n → strictFrom n s (gather at (headerWords + 1) (headerWords + k - (headerWords + 1))) ≡ tableGood n (gather at headerWords k)
   unfolding tableGood gather
   table-more h q z l =
       let e : k ≡ suc (k - 1) = omega arith in
-      let f : 6 + k - 7 ≡ k - 1 = omega arith in
-      let t : tableGood n (gather at 6 (suc (k - 1))) ≡ strictFrom n s (gather at 7 (k - 1)) = rw (← q, eq-eqb s 0 z, lt-ltb s n l) in
-      ap (λ (x : ℕ). strictFrom n s (gather at 7 x)) f ∙ sym (ap (λ (x : ℕ). tableGood n (gather at 6 x)) e ∙ t)
+      let f : headerWords + k - (headerWords + 1) ≡ k - 1 = omega arith in
+      let t : tableGood n (gather at headerWords (suc (k - 1))) ≡ strictFrom n s (gather at (headerWords + 1) (k - 1)) = rw (← q, eq-eqb s 0 z, lt-ltb s n l) in
+      ap (λ (x : ℕ). strictFrom n s (gather at (headerWords + 1) x)) f ∙ sym (ap (λ (x : ℕ). tableGood n (gather at headerWords x)) e ∙ t)
 
 -- a word that is tested
 pub is-so : {r w n : ℕ} → r ≡ w → r ≡ n → eqb w n ≡ true

@@ -2,8 +2,16 @@
 use path::put_number;
 use refusal::Refusal;
 use refusal::Verdict;
+use sheet::HEADER_WORDS;
+use sheet::MODE;
+use sheet::NUMBERS_OFFSET;
+use sheet::POINTS;
+use sheet::STARTS_OFFSET;
+use sheet::STROKES;
+use sheet::VERTICES;
 use sheet::counts_good;
-use sheet::mode_word;
+use sheet::mode_good;
+use sheet::numbers_from;
 use sheet::word_at;
 ghost use mathlib.Core.Path.{_≡_};
 ghost use Prim.Native.Nat.{_-_, _≤_};
@@ -11,7 +19,7 @@ ghost use lib.Seq.{sets};
 ghost use Rattle.refusal.specs.Limits.{mostStrokes, mostPoints};
 ghost use Rattle.path.specs.Strokes.{gather};
 ghost use Rattle.mesh.specs.Meshes.{allBelow};
-ghost use Rattle.sheet.specs.Sheets.{wordAt, modeGood, placesGood, strictFrom, tableGood, headerGood, isSheet};
+ghost use Rattle.sheet.specs.Sheets.{headerWords, wordAt, placesGood, strictFrom, tableGood, headerGood, isSheet};
 ghost use Rattle.sheet_read.specs.Read.{roomFor, verdictOf, said, left, readLeft};
 
 // What reading a sheet answers: its mode and vertices, and how many points and starts were written; or why none were.
@@ -25,40 +33,34 @@ pub enum SheetRead {
     Refused(Refusal),
 }
 
-// Whether a number is stored of some mode.
-fn mode_good(mode: u32) -> bool
-    ensures { λ r. ⌜ r ≡ modeGood mode ⌝ }
-{
-    if mode == 0 {
-        return false;
-    }
-    mode_word(mode) == mode
-}
-
 // Whether starts and numbers begin where they must, and the bytes end with them.
-fn places_good(bytes: &[u8], strokes: usize, points: usize) -> bool
-    requires { ⌜ (strokes ≤ mostStrokes) × (points ≤ mostPoints) ⌝ }
+fn places_good(bytes: &[u8], strokes: u32, points: u32) -> bool
     ensures { λ r. ⌜ r ≡ placesGood (now (bytes .entry)) strokes points ⌝ }
 {
-    if word_at(bytes, 4) != 24 {
+    let k = numbers_from(strokes);
+    if word_at(bytes, STARTS_OFFSET) as usize != 4 * HEADER_WORDS {
         return false;
     }
-    if word_at(bytes, 5) as usize != 24 + 4 * strokes {
+    if word_at(bytes, NUMBERS_OFFSET) as usize != 4 * k {
         return false;
     }
-    bytes.len() == 24 + 4 * strokes + 4 * points
+    bytes.len() == 4 * (k + points as usize)
 }
 
 // Whether the header is that of a sheet of these bytes.
 fn header_good(bytes: &[u8]) -> bool
     ensures { λ r. ⌜ r ≡ headerGood (now (bytes .entry)) ⌝ }
 {
-    let strokes = word_at(bytes, 2) as usize;
-    let points = word_at(bytes, 3) as usize;
-    if !mode_good(word_at(bytes, 0)) {
+    let strokes = word_at(bytes, STROKES);
+    let points = word_at(bytes, POINTS);
+    if !mode_good(word_at(bytes, MODE)) {
         return false;
     }
-    if !counts_good(word_at(bytes, 1) as usize, strokes, points) {
+    if !counts_good(
+        word_at(bytes, VERTICES) as usize,
+        strokes as usize,
+        points as usize,
+    ) {
         return false;
     }
     places_good(bytes, strokes, points)
@@ -87,19 +89,19 @@ fn strict_from(bytes: &[u8], a: usize, e: usize, s: u32, n: u32) -> bool
 // Whether the starts are a table of n points: from 0 on, strictly rising, below n; none exactly if there is no point.
 fn table_good(bytes: &[u8], strokes: usize, n: u32) -> bool
     requires { ⌜ strokes ≤ mostStrokes ⌝ }
-    ensures { λ r. ⌜ r ≡ tableGood n (gather (wordAt (now (bytes .entry))) 6 strokes) ⌝ }
+    ensures { λ r. ⌜ r ≡ tableGood n (gather (wordAt (now (bytes .entry))) headerWords strokes) ⌝ }
 {
     if strokes == 0 {
         return n == 0;
     }
-    let s = word_at(bytes, 6);
+    let s = word_at(bytes, HEADER_WORDS);
     if s != 0 {
         return false;
     }
     if n <= s {
         return false;
     }
-    strict_from(bytes, 7, 6 + strokes, s, n)
+    strict_from(bytes, HEADER_WORDS + 1, HEADER_WORDS + strokes, s, n)
 }
 
 // Whether the words from a up to e are below n.
@@ -123,23 +125,23 @@ pub fn is_sheet(bytes: &[u8]) -> bool
     if !header_good(bytes) {
         return false;
     }
-    let strokes = word_at(bytes, 2) as usize;
-    let n = word_at(bytes, 3);
-    if !table_good(bytes, strokes, n) {
+    let strokes = word_at(bytes, STROKES);
+    let n = word_at(bytes, POINTS);
+    if !table_good(bytes, strokes as usize, n) {
         return false;
     }
-    let a = 6 + strokes;
-    words_below(bytes, a, a + n as usize, word_at(bytes, 1))
+    let a = numbers_from(strokes);
+    words_below(bytes, a, a + n as usize, word_at(bytes, VERTICES))
 }
 
 // Whether there is room for the strokes and points in the header.
 fn room_for(bytes: &[u8], room: usize, start_room: usize) -> bool
     ensures { λ r. ⌜ r ≡ roomFor (now (bytes .entry)) room «start_room» ⌝ }
 {
-    if room < word_at(bytes, 3) as usize {
+    if room < word_at(bytes, POINTS) as usize {
         return false;
     }
-    word_at(bytes, 2) as usize <= start_room
+    word_at(bytes, STROKES) as usize <= start_room
 }
 
 // The tests before the call's work: bytes that are no sheet come before missing room. Nothing lent is touched.
@@ -176,15 +178,15 @@ pub fn read_sheet(bytes: &[u8], out_numbers: &mut [u32], out_starts: &mut [u32])
     match v {
         Verdict::Refused(r) => SheetRead::Refused(r),
         Verdict::Accepted => {
-            let strokes = word_at(bytes, 2) as usize;
-            let points = word_at(bytes, 3) as usize;
-            copy_words(bytes, 6, strokes, out_starts);
-            copy_words(bytes, 6 + strokes, points, out_numbers);
+            let strokes = word_at(bytes, STROKES);
+            let points = word_at(bytes, POINTS) as usize;
+            copy_words(bytes, HEADER_WORDS, strokes as usize, out_starts);
+            copy_words(bytes, numbers_from(strokes), points, out_numbers);
             SheetRead::Wrote {
-                mode: word_at(bytes, 0),
-                vertices: word_at(bytes, 1),
+                mode: word_at(bytes, MODE),
+                vertices: word_at(bytes, VERTICES),
                 points: points,
-                starts: strokes,
+                starts: strokes as usize,
             }
         }
     }

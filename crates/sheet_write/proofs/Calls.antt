@@ -18,7 +18,7 @@ use Rattle.path.specs.Laid.{over, nonEmpty}
 use Rattle.path.proofs.Tests.{passed}
 use Rattle.path.proofs.Pushes.{over-sets}
 use Rattle.sheet.specs.Kept.{keptFrom}
-use Rattle.sheet.specs.Sheets.{bytesAll, headerOf, wordsOf, sheetOf, sizeOf, strokesIn}
+use Rattle.sheet.specs.Sheets.{headerWords, numbersFrom, bytesAll, headerOf, wordsOf, sheetOf, sizeOf, strokesIn}
 use Rattle.sheet.proofs.Words.{put-more}
 use Rattle.path.proofs.Again.{joined-all}
 use Rattle.sheet.proofs.Tables.{kept-all, kept-count}
@@ -50,11 +50,11 @@ granted mode vertices ns ss room h =
 
 -- header, starts and numbers stored one after the other
 pub all-put : (l : List ℕ) (m v : ℕ) (ks ns : List ℕ) (k : ℕ) (l₁ l₂ l₃ : List ℕ) → l₁ ≡ sets l 0 (bytesAll (headerOf m v (length ks) (length ns)))
-    → l₂ ≡ sets l₁ 24 (bytesAll ks) → k ≡ 6 + length ks → l₃ ≡ sets l₂ (k * 4) (bytesAll ns) → l₃ ≡ sets l 0 (bytesAll (wordsOf m v ks ns))
+    → l₂ ≡ sets l₁ (headerWords * 4) (bytesAll ks) → k ≡ numbersFrom (length ks) → l₃ ≡ sets l₂ (k * 4) (bytesAll ns) → l₃ ≡ sets l 0 (bytesAll (wordsOf m v ks ns))
 unfolding headerOf
 all-put l m v ks ns k l₁ l₂ l₃ e₁ e₂ e e₃ =
-    e₃ ∙ ap (λ (x : List ℕ). sets x (k * 4) (bytesAll ns)) e₂ ∙ ap (λ (x : ℕ). sets (sets l₁ 24 (bytesAll ks)) (x * 4) (bytesAll ns)) e ∙ put-more l₁ 6 ks ns
-    ∙ ap (λ (x : List ℕ). sets x 24 (bytesAll (ks ++ ns))) e₁ ∙ put-more l 0 (headerOf m v (length ks) (length ns)) (ks ++ ns)
+    e₃ ∙ ap (λ (x : List ℕ). sets x (k * 4) (bytesAll ns)) e₂ ∙ ap (λ (x : ℕ). sets (sets l₁ (headerWords * 4) (bytesAll ks)) (x * 4) (bytesAll ns)) e ∙ put-more l₁ headerWords ks ns
+    ∙ ap (λ (x : List ℕ). sets x (headerWords * 4) (bytesAll (ks ++ ns))) e₁ ∙ put-more l 0 (headerOf m v (length ks) (length ns)) (ks ++ ns)
 
 -- the words that the code stores are those of the sheet
 pub sheet-is : (m v : ℕ) (ns ss : List ℕ) → goodStarts (length ns) ss ≡ true → bytesAll (wordsOf m v (keptFrom (length ns) ss) ns) ≡ sheetOf m v (strokesIn ns ss)

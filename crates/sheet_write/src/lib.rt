@@ -4,8 +4,16 @@ use path::end_of;
 use path::rising;
 use refusal::Refusal;
 use refusal::Verdict;
+use sheet::HEADER_WORDS;
+use sheet::MODE;
+use sheet::NUMBERS_OFFSET;
+use sheet::POINTS;
+use sheet::STARTS_OFFSET;
+use sheet::STROKES;
+use sheet::VERTICES;
 use sheet::counts_good;
 use sheet::mode_word;
+use sheet::numbers_from;
 use sheet::put_word;
 ghost use mathlib.Core.Path.{_≡_};
 ghost use Prim.Native.Nat.{_+_, _*_, _<_, _≤_};
@@ -13,7 +21,7 @@ ghost use lib.ListN.{length, getD};
 ghost use lib.Seq.{sets};
 ghost use lib.Dec.{leb, ltb};
 ghost use Rattle.refusal.specs.Limits.{mostStrokes, mostPoints};
-ghost use Rattle.sheet.specs.Sheets.{modeWord, bytesAll, headerOf, wordsOf, sizeOf};
+ghost use Rattle.sheet.specs.Sheets.{headerWords, numbersFrom, modeWord, bytesAll, headerOf, wordsOf, sizeOf};
 ghost use Rattle.sheet.specs.Kept.{keptAt, keptFrom};
 ghost use Rattle.sheet_write.specs.Write.{verdictOf, said, left, writeLeft};
 
@@ -73,10 +81,10 @@ fn put_start(starts: &[u32], i: usize, n: usize, out: &mut [u8], k: usize) -> us
 // Stores the starts of all strokes that have points behind the header, and answers the place after them.
 fn write_starts(starts: &[u32], n: usize, out: &mut [u8]) -> usize
     requires { ⌜ length (now starts) ≤ mostStrokes ⌝ }
-    ensures { λ r. ⌜ now (out .exit) ≡ sets (now (out .entry)) 24 (bytesAll (keptFrom n (now (starts .entry)))) ⌝ }
-    ensures { λ r. ⌜ (r ≡ 6 + length (keptFrom n (now (starts .entry)))) × (r ≤ 6 + mostStrokes) ⌝ }
+    ensures { λ r. ⌜ now (out .exit) ≡ sets (now (out .entry)) (headerWords * 4) (bytesAll (keptFrom n (now (starts .entry)))) ⌝ }
+    ensures { λ r. ⌜ (r ≡ numbersFrom (length (keptFrom n (now (starts .entry))))) × (r ≤ numbersFrom mostStrokes) ⌝ }
 {
-    let mut k: usize = 6;
+    let mut k: usize = HEADER_WORDS;
     let mut i: usize = 0;
     while i < starts.len() {
         k = put_start(starts, i, n, out, k);
@@ -87,7 +95,7 @@ fn write_starts(starts: &[u32], n: usize, out: &mut [u8]) -> usize
 
 // Stores the numbers from word k on.
 fn write_numbers(numbers: &[u32], out: &mut [u8], k: usize)
-    requires { ⌜ (length (now numbers) ≤ mostPoints) × (k ≤ 6 + mostStrokes) ⌝ }
+    requires { ⌜ (length (now numbers) ≤ mostPoints) × (k ≤ numbersFrom mostStrokes) ⌝ }
     ensures { λ _. ⌜ now (out .exit) ≡ sets (now (out .entry)) (k * 4) (bytesAll (now (numbers .entry))) ⌝ }
 {
     let mut i: usize = 0;
@@ -102,12 +110,12 @@ fn write_header(out: &mut [u8], mode: u32, vertices: u32, strokes: u32, points: 
     requires { ⌜ strokes ≤ mostStrokes ⌝ }
     ensures { λ _. ⌜ now (out .exit) ≡ sets (now (out .entry)) 0 (bytesAll (headerOf mode vertices strokes points)) ⌝ }
 {
-    put_word(out, 0, mode);
-    put_word(out, 1, vertices);
-    put_word(out, 2, strokes);
-    put_word(out, 3, points);
-    put_word(out, 4, 24);
-    put_word(out, 5, 24 + 4 * strokes);
+    put_word(out, MODE, mode);
+    put_word(out, VERTICES, vertices);
+    put_word(out, STROKES, strokes);
+    put_word(out, POINTS, points);
+    put_word(out, STARTS_OFFSET, (4 * HEADER_WORDS) as u32);
+    put_word(out, NUMBERS_OFFSET, (4 * numbers_from(strokes)) as u32);
 }
 
 // Whether the sheet of n numbers fits so many bytes.
@@ -115,7 +123,7 @@ fn fits(starts: &[u32], n: usize, room: usize) -> bool
     requires { ⌜ (length (now starts) ≤ mostStrokes) × (n ≤ mostPoints) ⌝ }
     ensures { λ r. ⌜ r ≡ leb (sizeOf (length (keptFrom n (now (starts .entry)))) n) room ⌝ }
 {
-    24 + 4 * kept(starts, n) + 4 * n <= room
+    4 * (numbers_from(kept(starts, n) as u32) + n) <= room
 }
 
 // The tests before the call's work: the lowest refusal that applies. Nothing lent is touched.
@@ -151,7 +159,7 @@ fn write_all(mode: u32, vertices: u32, numbers: &[u32], starts: &[u32], out: &mu
     write_header(out, mode_word(mode), vertices, strokes as u32, n as u32);
     let k = write_starts(starts, n, out);
     write_numbers(numbers, out, k);
-    24 + 4 * strokes + 4 * n
+    4 * (k + n)
 }
 
 // Writes strokes of vertex numbers as a sheet. An empty stroke is not written, and mode 0 is stored as what it stands for.

@@ -14,8 +14,8 @@ enum-known-v c = search needs
 enum-told : tie.Need-enum-told
 enum-told c = search needs
 
-mode-in-requires : tie.Need-mode-in-requires
-mode-in-requires c κs = search needs
+mode-named-requires : tie.Need-mode-named-requires
+mode-named-requires c κs = search needs
 
 draw-strokes-requires : tie.Need-draw-strokes-requires
 draw-strokes-requires c κs = search needs
@@ -40,7 +40,7 @@ same-length-4 c = search needs
 returns-2 : tie.Need-returns-2
 returns-2 c =
     let a = c .before .before .before .before .before .before .before .before .before .before .before .before .before .before .before .before .before .before .before .before .before .before .before .before .args in
-    accept (a .vertices .now) (a .indices .now) (a .flips .now) (a .number) (a .cos-theta) (a .eye) (a .tolerance) (a .scratch .now) (a .seen .now) (a .out-points .now) (a .out-starts .now) _ _ (c .before .before .before .before .before .before .before .before .before .before .before .before .before .mode-in .ensures) (sym (c .before .before .before .before .before .before .before .before .before .before .before .before .before .before .before .before .draw-verdict .ensures) ∙ c .before .before .before .before .before .before .before .before .before .before .before .before .before .before .enum-told .given .1) (c .before .before .before .before .before .before .before .before .draw-strokes .ensures)
+    accept (a .vertices .now) (a .indices .now) (a .flips .now) (a .number) (a .cos-theta) (a .eye) (a .tolerance) (a .scratch .now) (a .seen .now) (a .out-points .now) (a .out-starts .now) _ _ (c .before .before .before .before .before .before .before .before .before .before .before .before .before .mode-named .ensures) (sym (c .before .before .before .before .before .before .before .before .before .before .before .before .before .before .before .before .draw-verdict .ensures) ∙ c .before .before .before .before .before .before .before .before .before .before .before .before .before .before .enum-told .given .1) (c .before .before .before .before .before .before .before .before .draw-strokes .ensures)
 
 pub draw-spec : {M : Type 1} → statement M
 draw-spec =
@@ -49,7 +49,7 @@ draw-spec =
     draw-verdict-requires
     enum-known-v
     enum-told
-    mode-in-requires
+    mode-named-requires
     draw-strokes-requires
     returns
     same-length

@@ -30,8 +30,8 @@ returns-3 : tie.Need-returns-3
 unfolding workVerdict unless
 returns-3 c = simp (sym (c .before .before .before .before .before .numbers-good .ensures) ∙ not-false _ (c .before .before .before .before .if1 .left), sym (c .before .before .before .scratch-for .ensures) ∙ not-false _ (c .before .before .if2 .left), sym (c .before .room-for .ensures) ∙ not-true _ (c .if3 .taken))
 
-mode-in-requires : tie.Need-mode-in-requires
-mode-in-requires c κs = search needs
+mode-named-requires : tie.Need-mode-named-requires
+mode-named-requires c κs = search needs
 
 flat-in-requires : tie.Need-flat-in-requires
 flat-in-requires c κs = search needs
@@ -40,14 +40,14 @@ returns-4 : tie.Need-returns-4
 unfolding workVerdict unless
 returns-4 c =
     let a = c .before .before .before .before .before .before .before .before .before .before .before .args in
-    let e = sym (c .before .flat-in .ensures ∙ ap (λ (m : Mode). flatIn m (a .vertices .now) (a .indices .now)) (c .before .before .mode-in .ensures)) ∙ c .if4 .taken in
+    let e = sym (c .before .flat-in .ensures ∙ ap (λ (m : Mode). flatIn m (a .vertices .now) (a .indices .now)) (c .before .before .mode-named .ensures)) ∙ c .if4 .taken in
     simp (sym (c .before .before .before .before .before .before .before .before .numbers-good .ensures) ∙ not-false _ (c .before .before .before .before .before .before .before .if1 .left), sym (c .before .before .before .before .before .before .scratch-for .ensures) ∙ not-false _ (c .before .before .before .before .before .if2 .left), sym (c .before .before .before .before .room-for .ensures) ∙ not-false _ (c .before .before .before .if3 .left), e)
 
 returns-5 : tie.Need-returns-5
 unfolding workVerdict unless
 returns-5 c =
     let a = c .before .before .before .before .before .before .before .before .before .before .before .args in
-    let e = sym (c .before .flat-in .ensures ∙ ap (λ (m : Mode). flatIn m (a .vertices .now) (a .indices .now)) (c .before .before .mode-in .ensures)) ∙ c .if4 .left in
+    let e = sym (c .before .flat-in .ensures ∙ ap (λ (m : Mode). flatIn m (a .vertices .now) (a .indices .now)) (c .before .before .mode-named .ensures)) ∙ c .if4 .left in
     simp (sym (c .before .before .before .before .before .before .before .before .numbers-good .ensures) ∙ not-false _ (c .before .before .before .before .before .before .before .if1 .left), sym (c .before .before .before .before .before .before .scratch-for .ensures) ∙ not-false _ (c .before .before .before .before .before .if2 .left), sym (c .before .before .before .before .room-for .ensures) ∙ not-false _ (c .before .before .before .if3 .left), e)
 
 pub work-verdict-spec : {M : Type 1} → statement M
@@ -60,7 +60,7 @@ work-verdict-spec =
     returns-2
     room-for-requires
     returns-3
-    mode-in-requires
+    mode-named-requires
     flat-in-requires
     returns-4
     returns-5)

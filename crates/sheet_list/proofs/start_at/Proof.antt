@@ -1,7 +1,7 @@
 -- `start_at` meets its contract.
 use mathlib.Core.Path.{_∙_}
 use native.Mathlib.Omega.{arith}
-use Rattle.sheet.specs.Sheets.{wordAt}
+use Rattle.sheet.specs.Sheets.{headerWords, wordAt}
 use Rattle.sheet_list.proofs.Inks.{start-in, start-past}
 use borrow.Author.Needs.{needs}
 use Rattle.sheet_list.proofs.start_at.Statement.{statement}
@@ -19,12 +19,12 @@ cast-result c = search needs
 returns : tie.Need-returns
 returns c =
     let a = c .before .before .before .args in
-    (c .word-at .ensures ∙ start-in (wordAt (a .bytes .now)) 6 (a .strokes) (a .i) (a .points) (c .before .if1 .taken), omega arith)
+    (c .word-at .ensures ∙ start-in (wordAt (a .bytes .now)) headerWords (a .strokes) (a .i) (a .points) (c .before .if1 .taken), omega arith)
 
 returns-2 : tie.Need-returns-2
 returns-2 c =
     let a = c .before .before .args in
-    (start-past (wordAt (a .bytes .now)) 6 (a .strokes) (a .i) (a .points) (c .if1 .left), omega arith)
+    (start-past (wordAt (a .bytes .now)) headerWords (a .strokes) (a .i) (a .points) (c .if1 .left), omega arith)
 
 pub start-at-spec : {M : Type 1} → statement M
 start-at-spec = tie.close (tie.spec add-word-at word-at-requires cast-result returns returns-2)

@@ -19,8 +19,11 @@ add-start-at c = search needs
 start-at-requires-2 : tie.Need-start-at-requires-2
 start-at-requires-2 c κs = search needs
 
-add-b : tie.Need-add-b
-add-b c = search needs
+cast-numbers-from : tie.Need-cast-numbers-from
+cast-numbers-from c = search needs
+
+numbers-from-requires : tie.Need-numbers-from-requires
+numbers-from-requires c κs = search needs
 
 add-write-line : tie.Need-add-write-line
 add-write-line c = search needs
@@ -36,9 +39,9 @@ same-length c = search needs
 
 returns : tie.Need-returns
 returns c =
-    let a = c .before .before .before .before .before .before .before .before .args in
+    let a = c .before .before .before .before .before .before .before .before .before .args in
     let w = c .before .before .write-line .ensures in
-    (w .0 ∙ ap (λ (l : List ℕ). inked sets (pen (a .out .now) (a .k)) (lineOf l)) (numbers-are (a .bytes .now) (a .strokes) _ _ _ _ (c .before .before .before .before .before .start-at .ensures .0) (c .before .before .before .before .start-at2 .ensures .0)), w .1)
+    (w .0 ∙ ap (λ (l : List ℕ). inked sets (pen (a .out .now) (a .k)) (lineOf l)) (numbers-are (a .bytes .now) (a .strokes) _ _ _ _ _ (c .before .before .before .before .numbers-from .ensures) (c .before .before .before .before .before .before .start-at .ensures .0) (c .before .before .before .before .before .start-at2 .ensures .0)), w .1)
 
 pub write-stroke-spec : {M : Type 1} → statement M
 write-stroke-spec =
@@ -47,7 +50,8 @@ write-stroke-spec =
     start-at-requires
     add-start-at
     start-at-requires-2
-    add-b
+    cast-numbers-from
+    numbers-from-requires
     add-write-line
     add-write-line-2
     write-line-requires

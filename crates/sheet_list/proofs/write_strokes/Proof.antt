@@ -7,7 +7,7 @@ use lib.Seq.{sets}
 use Rattle.path.specs.Strokes.{gather, strokesOf}
 use Rattle.path.specs.Laid.{pen, inked}
 use Rattle.path.proofs.Gathers.{length-gather}
-use Rattle.sheet.specs.Sheets.{wordAt}
+use Rattle.sheet.specs.Sheets.{headerWords, wordAt}
 use Rattle.sheet_list.specs.Listing.{linesOf, numberIn}
 use Rattle.sheet_list.proofs.Lines.{stroke-turn, stroke-end}
 use Rattle.sheet_list.proofs.write_strokes.Statement.{statement}
@@ -16,8 +16,8 @@ use Rattle.sheet_list.proofs.write_strokes.Tie as tie
 abbrev Inv-loop : tie.InvT-loop
 Inv-loop bytes strokes points out₀ k i₀ at₀ out i at =
     (i ≤ strokes) × (at ≤ k + i * 0x17_0000_0000) × (length out ≡ length out₀)
-    × (inked sets (pen out at) (linesOf (strokesOf (numberIn bytes strokes) points (drop i (gather (wordAt bytes) 6 strokes))))
-    ≡ inked sets (pen out₀ k) (linesOf (strokesOf (numberIn bytes strokes) points (gather (wordAt bytes) 6 strokes))))
+    × (inked sets (pen out at) (linesOf (strokesOf (numberIn bytes strokes) points (drop i (gather (wordAt bytes) headerWords strokes))))
+    ≡ inked sets (pen out₀ k) (linesOf (strokesOf (numberIn bytes strokes) points (gather (wordAt bytes) headerWords strokes))))
 
 abbrev μ-loop : tie.MeasureT-loop
 μ-loop bytes strokes points out₀ k i₀ at₀ out i at = strokes - i
@@ -40,7 +40,7 @@ loop-again c =
     let a = c .before .before .before .before .before .before .before .before .args in
     let t = c .before .before .before .before .loop-test .taken in
     let w = c .before .before .write-stroke .ensures in
-    (omega (arith, t), omega (arith, w .1, l .inv .1), cc, stroke-turn (numberIn (a .bytes .now) (a .strokes)) (a .points) (gather (wordAt (a .bytes .now)) 6 (a .strokes)) (l .out) (l .at) (l .i) (l .inv .3) (omega (arith, t, length-gather (wordAt (a .bytes .now)) 6 (a .strokes))) _ _ (w .0))
+    (omega (arith, t), omega (arith, w .1, l .inv .1), cc, stroke-turn (numberIn (a .bytes .now) (a .strokes)) (a .points) (gather (wordAt (a .bytes .now)) headerWords (a .strokes)) (l .out) (l .at) (l .i) (l .inv .3) (omega (arith, t, length-gather (wordAt (a .bytes .now)) headerWords (a .strokes))) _ _ (w .0))
 
 same-length : tie.Need-same-length Inv-loop μ-loop
 same-length c = c .before .loop .inv .2
@@ -49,7 +49,7 @@ returns : tie.Need-returns Inv-loop μ-loop
 returns c =
     let l = c .before .loop in
     let a = c .before .before .before .before .args in
-    stroke-end (numberIn (a .bytes .now) (a .strokes)) (a .points) (gather (wordAt (a .bytes .now)) 6 (a .strokes)) (l .out) (l .at) (l .i) (l .inv .3) (omega (arith, c .loop-test .left, length-gather (wordAt (a .bytes .now)) 6 (a .strokes)))
+    stroke-end (numberIn (a .bytes .now) (a .strokes)) (a .points) (gather (wordAt (a .bytes .now)) headerWords (a .strokes)) (l .out) (l .at) (l .i) (l .inv .3) (omega (arith, c .loop-test .left, length-gather (wordAt (a .bytes .now)) headerWords (a .strokes)))
 
 pub write-strokes-spec : {M : Type 1} → statement M
 write-strokes-spec =

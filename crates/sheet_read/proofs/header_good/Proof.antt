@@ -1,24 +1,16 @@
 -- `header_good` meets its contract: each test is that of the definition.
+use borrow.Author.Needs.{needs}
 use mathlib.Core.Path.{sym, _∙_}
-use native.Mathlib.Omega.{arith}
 use borrow.Author.Tests.{not-true, not-false}
 use Rattle.sheet.specs.Sheets.{headerGood}
-use Rattle.sheet.proofs.Sizes.{limits}
-use borrow.Author.Needs.{needs}
 use Rattle.sheet_read.proofs.header_good.Statement.{statement}
 use Rattle.sheet_read.proofs.header_good.Tie as tie
 
 word-at-requires : tie.Need-word-at-requires
 word-at-requires c κs = search needs
 
-cast-strokes : tie.Need-cast-strokes
-cast-strokes c = search needs
-
 word-at-requires-2 : tie.Need-word-at-requires-2
 word-at-requires-2 c κs = search needs
-
-cast-points : tie.Need-cast-points
-cast-points c = search needs
 
 word-at-requires-3 : tie.Need-word-at-requires-3
 word-at-requires-3 c κs = search needs
@@ -36,6 +28,12 @@ word-at-requires-4 c κs = search needs
 cast-counts-good : tie.Need-cast-counts-good
 cast-counts-good c = search needs
 
+cast-counts-good-2 : tie.Need-cast-counts-good-2
+cast-counts-good-2 c = search needs
+
+cast-counts-good-3 : tie.Need-cast-counts-good-3
+cast-counts-good-3 c = search needs
+
 counts-good-requires : tie.Need-counts-good-requires
 counts-good-requires c κs = search needs
 
@@ -44,7 +42,7 @@ unfolding headerGood
 returns-2 c = rw (← c .before .before .before .before .before .word-at3 .ensures, sym (c .before .before .before .before .mode-good .ensures) ∙ not-false _ (c .before .before .before .if1 .left), ← c .before .before .word-at4 .ensures, ← c .before .before .before .before .before .before .word-at2 .ensures, ← c .before .before .before .before .before .before .before .word-at .ensures, sym (c .before .counts-good .ensures) ∙ not-true _ (c .if2 .taken))
 
 places-good-requires : tie.Need-places-good-requires
-places-good-requires c κs = omega (arith, limits _ _ _ (sym (c .before .counts-good .ensures) ∙ not-false _ (c .if2 .left)))
+places-good-requires c κs = search needs
 
 returns-3 : tie.Need-returns-3
 unfolding headerGood
@@ -55,14 +53,14 @@ header-good-spec =
     tie.close
     (tie.spec
     word-at-requires
-    cast-strokes
     word-at-requires-2
-    cast-points
     word-at-requires-3
     mode-good-requires
     returns
     word-at-requires-4
     cast-counts-good
+    cast-counts-good-2
+    cast-counts-good-3
     counts-good-requires
     returns-2
     places-good-requires

@@ -21,6 +21,9 @@ returns-3 c = let a = c .before .before .before .before .before .args in sym (ta
 add-strict-from : tie.Need-add-strict-from
 add-strict-from c = search needs
 
+add-strict-from-2 : tie.Need-add-strict-from-2
+add-strict-from-2 c = search needs
+
 strict-from-requires : tie.Need-strict-from-requires
 strict-from-requires c κs = search needs
 
@@ -36,5 +39,6 @@ table-good-spec =
     returns-2
     returns-3
     add-strict-from
+    add-strict-from-2
     strict-from-requires
     returns-4)

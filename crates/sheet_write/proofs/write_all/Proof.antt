@@ -1,13 +1,12 @@
 -- `write_all` meets its contract.
+use borrow.Author.Needs.{needs}
 use mathlib.Core.Path.{ap, _∙_}
-use Prim.Native.Nat.{ℕ}
+use Prim.Native.Nat.{ℕ, _+_, _*_}
 use lib.ListN.{length}
 use lib.Seq.{sets}
-use Rattle.sheet.specs.Sheets.{bytesAll, headerOf, sizeOf}
+use Rattle.sheet.specs.Sheets.{bytesAll, headerOf, modeWord}
 use Rattle.sheet.specs.Kept.{keptFrom}
-use Rattle.sheet.specs.Sheets.{modeWord}
 use Rattle.sheet_write.proofs.Calls.{all-put}
-use borrow.Author.Needs.{needs}
 use Rattle.sheet_write.proofs.write_all.Statement.{statement}
 use Rattle.sheet_write.proofs.write_all.Tie as tie
 
@@ -32,17 +31,11 @@ write-starts-requires c κs = search needs
 write-numbers-requires : tie.Need-write-numbers-requires
 write-numbers-requires c κs = search needs
 
-mul-result : tie.Need-mul-result
-mul-result c = search needs
-
 add-result : tie.Need-add-result
 add-result c = search needs
 
-mul-result-2 : tie.Need-mul-result-2
-mul-result-2 c = search needs
-
-add-result-2 : tie.Need-add-result-2
-add-result-2 c = search needs
+mul-result : tie.Need-mul-result
+mul-result c = search needs
 
 same-length : tie.Need-same-length
 same-length c = search needs
@@ -54,7 +47,7 @@ returns c =
     let w = c .before .before .before .before .before .before .write-starts .ensures in
     let n = length (a .numbers .now) in
     let h = c .before .before .before .before .before .before .before .before .before .before .write-header .ensures ∙ ap (λ (x : ℕ). sets (a .out .now) 0 (bytesAll (headerOf x (a .vertices) (c .before .before .before .before .before .before .before .before .before .before .before .before .before .kept .result) n))) (c .before .before .before .before .before .before .before .before .before .before .before .mode-word .ensures) ∙ ap (λ (x : ℕ). sets (a .out .now) 0 (bytesAll (headerOf (modeWord (a .mode)) (a .vertices) x n))) s in
-    (all-put (a .out .now) (modeWord (a .mode)) (a .vertices) (keptFrom n (a .starts .now)) (a .numbers .now) _ _ _ _ h (w .0) (w .1 .0) (c .before .before .write-numbers .ensures), ap (λ (x : ℕ). sizeOf x n) s)
+    (all-put (a .out .now) (modeWord (a .mode)) (a .vertices) (keptFrom n (a .starts .now)) (a .numbers .now) _ _ _ _ h (w .0) (w .1 .0) (c .before .before .write-numbers .ensures), ap (λ (k : ℕ). 4 * (k + n)) (w .1 .0))
 
 pub write-all-spec : {M : Type 1} → statement M
 write-all-spec =
@@ -67,9 +60,7 @@ write-all-spec =
     write-header-requires
     write-starts-requires
     write-numbers-requires
-    mul-result
     add-result
-    mul-result-2
-    add-result-2
+    mul-result
     same-length
     returns)

@@ -6,15 +6,15 @@ use borrow.Author.Needs.{needs}
 use Prim.Native.Nat.{_+_, _-_, _*_, _≤_}
 use native.Mathlib.Omega.{arith}
 use lib.ListN.{length, drop}
-use Rattle.sheet.specs.Sheets.{bytesAll}
+use Rattle.sheet.specs.Sheets.{headerWords, numbersFrom, bytesAll}
 use Rattle.sheet.specs.Kept.{keptFrom}
 use Rattle.sheet_write.proofs.write_starts.Statement.{statement}
 use Rattle.sheet_write.proofs.write_starts.Tie as tie
 
 abbrev Inv-loop : tie.InvT-loop
 Inv-loop starts n out₀ k₀ i₀ out k i =
-    (i ≤ length starts) × (k ≤ 6 + i) × (k + length (keptFrom n (drop i starts)) ≡ 6 + length (keptFrom n starts))
-    × (sets out (k * 4) (bytesAll (keptFrom n (drop i starts))) ≡ sets out₀ 24 (bytesAll (keptFrom n starts)))
+    (i ≤ length starts) × (k ≤ headerWords + i) × (k + length (keptFrom n (drop i starts)) ≡ numbersFrom (length (keptFrom n starts)))
+    × (sets out (k * 4) (bytesAll (keptFrom n (drop i starts))) ≡ sets out₀ (headerWords * 4) (bytesAll (keptFrom n starts)))
 
 abbrev μ-loop : tie.MeasureT-loop
 μ-loop starts n out₀ k₀ i₀ out k i = length starts - i
