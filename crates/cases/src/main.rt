@@ -6,6 +6,7 @@ use mesh_weld::Welded;
 use path_adaptive::Adapted;
 use path_chop::Chopped;
 use path_simplify::Simplified;
+use refusal::MOST_FACES;
 use vector::Vector;
 use vector::matrix::Matrix;
 
@@ -135,9 +136,9 @@ fn section_through_a_corner() {
 // The most faces that a mesh may have.
 fn section_of_the_most_faces() {
     let vertices = [0.0; 9];
-    let indices = [0u32; 196608];
-    let mut points = [0.0; 393216];
-    let mut starts = [0u32; 65536];
+    let indices = [0u32; 3 * MOST_FACES];
+    let mut points = [0.0; 6 * MOST_FACES];
+    let mut starts = [0u32; MOST_FACES];
     let r = mesh_section::section(
         &vertices[..],
         &indices[..],
@@ -152,7 +153,7 @@ fn section_of_the_most_faces() {
 // One face more.
 fn section_of_one_face_more() {
     let vertices = [0.0; 9];
-    let indices = [0u32; 196611];
+    let indices = [0u32; 3 * MOST_FACES + 3];
     let mut points = [0.0; 6];
     let mut starts = [0u32; 1];
     let r = mesh_section::section(

@@ -1,6 +1,7 @@
 // The paper's measured cases of drawing: a line each, the case, the drawing's numbers, and where its strokes begin.
 use libc::STDOUT_FILENO;
 use mesh_draw::Drawing;
+use refusal::MOST_FACES;
 use vector::Vector;
 
 fn text(s: &[u8]) {
@@ -97,7 +98,7 @@ fn flat(what: &[u8], mode: u32) {
 // A mesh of one face too many.
 fn one_face_more() {
     let vertices = [0.0; 9];
-    let indices = [0u32; 196611];
+    let indices = [0u32; 3 * MOST_FACES + 3];
     let flips = [0u32; 2];
     let mut scratch = [7u32; 64];
     let mut seen = [7.0; 4];

@@ -21,7 +21,7 @@ use Rattle.path_ends.specs.Demand.{one, drawn, degree, Demand3}
 use Rattle.path_ends.specs.Splice.{splice}
 use Rattle.path_ends.proofs.Bags.{bags}
 use Rattle.path_ends.proofs.Numbers.{numbers, on-numbers}
-use Rattle.path_splice.specs.Text.{strokesIn}
+use Rattle.path.specs.Strokes.{strokesIn}
 use Rattle.path_splice.specs.Lent as S
 use Rattle.path_splice.specs.declared.Spliced.the-variants as spliced
 use Rattle.mesh.specs.Meshes.{countedOf, allBelow}

@@ -9,7 +9,7 @@ use lib.Dec.{eqb}
 use lib.Ieee.{Float}
 use lib.ListN.{length, getD, take}
 use Rattle.vector.specs.declared.Vector.{Vector}
-use Rattle.path.specs.Strokes.{strokesOf, numberAt}
+use Rattle.path.specs.Strokes.{strokesIn}
 use Rattle.path_ends.specs.Demand.{drawn, degree, openCount, endsOpen}
 use Rattle.mesh_mode.specs.declared.Mode.{Mode}
 use Rattle.mesh_edges.specs.Edges.{faceOf, nextCorner, upFrom}
@@ -17,7 +17,7 @@ use Rattle.mesh_strokes.specs.Draw.{kept, seenBy}
 
 -- the strokes in two lists, of which the first p numbers and the first q starts were written
 abbrev pub strokesLeft : ℕ → ℕ → List ℕ → List ℕ → List (List ℕ)
-strokesLeft p q points starts = strokesOf (numberAt (take p points)) (length (take p points)) (take q starts)
+strokesLeft p q points starts = strokesIn (take p points) (take q starts)
 
 -- strokes that draw each pair a b, in either direction, exactly `times a b` times
 pub record Draws (times : ℕ → ℕ → ℕ) (strokes : List (List ℕ)) : Type 0 where

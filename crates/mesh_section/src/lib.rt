@@ -18,6 +18,7 @@ ghost use Prim.Native.Nat.{_+_, _*_, _/_, _≤_, _<_};
 ghost use lib.ListN.{length, getD};
 ghost use lib.Ieee.{binary64, div};
 ghost use Rattle.mesh.specs.Meshes.{cornerAt, faceAt, reachOf};
+ghost use Rattle.refusal.specs.Limits.{mostFaces, mostStrokes, mostPoints};
 ghost use Rattle.path.specs.Laid.{out, push, pushAll, putPoints};
 ghost use Rattle.path.specs.Left.{left};
 ghost use Rattle.mesh_section.specs.Section.{segmentHit, runsAlong, within, twoOf, triangleCut, cutStroke, facesCut};
@@ -132,7 +133,7 @@ fn first_two(v1: Hit, v2: Hit, v3: Hit) -> Cut
 
 // Writes the stroke of a cut and its start; of no cut nothing.
 fn write_cut(c: Cut, out_points: &mut [f64], out_starts: &mut [u32], p: Place) -> Place
-    requires { ⌜ (p .points ≤ 1048576) × (p .starts ≤ 1048576) ⌝ }
+    requires { ⌜ (p .points ≤ mostPoints) × (p .starts ≤ mostStrokes) ⌝ }
     ensures { λ r. ⌜ out (now («out_points» .exit)) (now («out_starts» .exit)) r
         ≡ push putPoints (out (now («out_points» .entry)) (now («out_starts» .entry)) p) (cutStroke c) ⌝ }
     ensures { λ r. ⌜ (r .points ≤ p .points + 2) × (r .starts ≤ p .starts + 1) ⌝ }
@@ -189,7 +190,7 @@ fn write_faces(
     out_points: &mut [f64],
     out_starts: &mut [u32],
 ) -> Place
-    requires { ⌜ n ≤ 65536 ⌝ }
+    requires { ⌜ n ≤ mostFaces ⌝ }
     requires { ⌜ reachOf (length (now vertices) / 3) (now indices) n ≡ true ⌝ }
     ensures { λ r. ⌜ out (now («out_points» .exit)) (now («out_starts» .exit)) r
         ≡ pushAll putPoints (out (now («out_points» .entry)) (now («out_starts» .entry)) (record { points = 0; starts = 0 }))

@@ -17,7 +17,7 @@ use Rattle.refusal.specs.Refusals.{unless}
 use Rattle.refusal.specs.declared.Refusal.{Refusal}
 use Rattle.refusal.specs.declared.Verdict.{Verdict}
 use Rattle.refusal.specs.declared.Verdict.the-variants.{Accepted}
-use Rattle.path.specs.Tests.{countedOf, coordinateGood, coordinatesGood}
+use Rattle.path.specs.Tests.{countedOf, withinOf, allWithin}
 
 -- what is accepted has passed the test, and those after it
 pub passed : (b : Bool) (r : Refusal) (v : Verdict) → unless b r v ≡ Accepted → (b ≡ true) × (v ≡ Accepted)
@@ -46,13 +46,12 @@ pub few-points : (points strokes : ℕ) → countedOf points strokes ≡ true �
 unfolding countedOf
 few-points points strokes h = leb-true points mostPoints (both (leb points mostPoints) (leb strokes mostStrokes) h .0)
 
--- the coordinates from place i on
-module _ (xs : List Float) (i : ℕ) where
-  -- a turn of the loop that counts the bad ones
-  pub good-turn : i < length xs → (bad more : ℕ) → more ≡ cond (coordinateGood (getD xs i nan)) 0 1
-      → (more ≤ 1) × (eqb (bad + more) 0 && coordinatesGood (drop (i + 1) xs) ≡ eqb bad 0 && coordinatesGood (drop i xs))
-  unfolding coordinatesGood
-  good-turn h bad more e = rw (drop-cons xs i nan h, add-one, e) (go (coordinateGood (getD xs i nan)) (coordinatesGood (drop (suc i) xs)))
+-- the numbers from place i on
+module _ (most : Float) (xs : List Float) (i : ℕ) where
+  -- a turn of the loop that counts those past the bound
+  pub good-turn : i < length xs → (bad more : ℕ) → more ≡ cond (withinOf most (getD xs i nan)) 0 1
+      → (more ≤ 1) × (eqb (bad + more) 0 && allWithin most (drop (i + 1) xs) ≡ eqb bad 0 && allWithin most (drop i xs))
+  good-turn h bad more e = rw (drop-cons xs i nan h, add-one, e) (go (withinOf most (getD xs i nan)) (allWithin most (drop (suc i) xs)))
     where
       go : (y z : Bool) → (cond y 0 1 ≤ 1) × (eqb (bad + cond y 0 1) 0 && z ≡ eqb bad 0 && (y && z))
       go true z = (omega arith, ap (λ (k : ℕ). eqb k 0 && z) (add-zero bad))
@@ -66,6 +65,5 @@ module _ (xs : List Float) (i : ℕ) where
           last true = refl
           last false = refl
 
-  pub good-all : length xs ≤ i → coordinatesGood (drop i xs) ≡ true
-  unfolding coordinatesGood
+  pub good-all : length xs ≤ i → allWithin most (drop i xs) ≡ true
   good-all h = rw (drop-of-length-le xs h)

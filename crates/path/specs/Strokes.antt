@@ -2,7 +2,7 @@
 use mathlib.Core.Bool.{Bool, true, _&&_}
 use mathlib.Core.List.{List, [], _∷_}
 use Prim.Native.Nat.{ℕ, zero, suc, _+_, _-_, _*_}
-use lib.ListN.{getD}
+use lib.ListN.{length, getD}
 use lib.Dec.{leb, eqb}
 use lib.Ieee.{Float, nan}
 use Rattle.vector.specs.declared.Vector.{Vector}
@@ -35,3 +35,7 @@ pointAt ps i = record { x = getD ps (i * 3) nan; y = getD ps (i * 3 + 1) nan; z 
 -- vertex numbers lie as they are: the number at place i
 abbrev pub numberAt : List ℕ → ℕ → ℕ
 numberAt ns i = getD ns i 0
+
+-- the strokes of a list of vertex numbers and a table of starts
+abbrev pub strokesIn : List ℕ → List ℕ → List (List ℕ)
+strokesIn ns ss = strokesOf (numberAt ns) (length ns) ss

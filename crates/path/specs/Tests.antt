@@ -1,10 +1,12 @@
 -- The tests that calls on points share.
-use mathlib.Core.Bool.{Bool, true, _&&_}
+use mathlib.Core.Path.{_≡_}
+use mathlib.Core.Bool.{Bool, true, false, _&&_}
 use mathlib.Core.List.{List, [], _∷_}
 use Prim.Native.Nat.{ℕ, _/_, _%_}
 use lib.ListN.{length}
 use lib.Dec.{leb, eqb}
-use lib.Ieee.{Float, binary64, ofBits, le, lt}
+use lib.IntN.{pos}
+use lib.Ieee.{Float, fin, binary64, ofBits, le, lt}
 use Rattle.refusal.specs.Limits.{mostPoints, mostStrokes}
 use Rattle.vector.specs.Abs.{absOf}
 use Rattle.vector.specs.Lengths.{zero64, one64}
@@ -18,25 +20,47 @@ shapedOf ps ss = eqb (length ps % 3) 0 && goodStarts (length ps / 3) ss
 unfoldable pub countedOf : ℕ → ℕ → Bool
 countedOf points strokes = leb points mostPoints && leb strokes mostStrokes
 
--- the greatest magnitude of a number handed to a call, 1,048,576.0
-abbrev pub mostNumber : Float
-mostNumber = ofBits binary64 0x4130_0000_0000_0000
+-- the greatest magnitude of a coordinate, eye and plane too: 1,048,576.0
+abbrev pub mostCoordinate : Float
+mostCoordinate = ofBits binary64 0x4130_0000_0000_0000
 
--- a coordinate or a matrix entry: magnitude within the bound, no NaN
+-- of an entry of a matrix, as much
+abbrev pub mostEntry : Float
+mostEntry = ofBits binary64 0x4130_0000_0000_0000
+
+-- the greatest step, width and height, as much
+abbrev pub mostSize : Float
+mostSize = ofBits binary64 0x4130_0000_0000_0000
+
+-- a bound is a power of two
+pub record Bound (most : Float) : Type 0 where
+  pub power : ℕ
+  pub is : most ≡ fin false 1 (pos power)
+
+-- magnitude within a bound, no NaN
+abbrev pub withinOf : Float → Float → Bool
+withinOf most x = le (absOf x) most
+
+abbrev pub allWithin : Float → List Float → Bool
+allWithin most [] = true
+allWithin most (x ∷ xs) = withinOf most x && allWithin most xs
+
 abbrev pub coordinateGood : Float → Bool
-coordinateGood x = le (absOf x) mostNumber
+coordinateGood x = withinOf mostCoordinate x
 
 unfoldable pub coordinatesGood : List Float → Bool
-coordinatesGood [] = true
-coordinatesGood (x ∷ xs) = coordinateGood x && coordinatesGood xs
+coordinatesGood xs = allWithin mostCoordinate xs
+
+unfoldable pub entriesGood : List Float → Bool
+entriesGood xs = allWithin mostEntry xs
 
 -- a step: above 0, within the bound
 unfoldable pub stepGood : Float → Bool
-stepGood x = lt zero64 x && le x mostNumber
+stepGood x = lt zero64 x && le x mostSize
 
 -- a width or a height: 0 to the bound
 unfoldable pub sizeGood : Float → Bool
-sizeGood x = le zero64 x && le x mostNumber
+sizeGood x = le zero64 x && le x mostSize
 
 -- a tolerance: strictly between 0 and 1
 unfoldable pub toleranceGood : Float → Bool

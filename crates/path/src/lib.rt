@@ -9,7 +9,7 @@ ghost use lib.ListN.{getD, set};
 ghost use lib.Ieee.{nan};
 ghost use Rattle.path.specs.Strokes.{goodStarts, pointAt};
 ghost use Rattle.path.specs.Laid.{putPoint};
-ghost use Rattle.path.specs.Tests.{shapedOf, countedOf, coordinateGood, coordinatesGood, stepGood, sizeGood, toleranceGood};
+ghost use Rattle.path.specs.Tests.{shapedOf, countedOf, Bound, withinOf, allWithin, coordinateGood, coordinatesGood, entriesGood, stepGood, sizeGood, toleranceGood};
 
 // Where the next point and the next start go.
 pub struct Place {
@@ -168,40 +168,70 @@ pub fn counted(points: usize, strokes: usize) -> bool
     strokes <= MOST_STROKES
 }
 
-// The greatest magnitude of a number handed to a call.
-const MOST_NUMBER: f64 = 1048576.0;
+// The greatest magnitude of a coordinate, eye and plane too.
+const MOST_COORDINATE: f64 = 1048576.0;
 
-// Whether a coordinate or a matrix entry is within the bound.
-pub fn coordinate_good(x: f64) -> bool
-    ensures { λ r. ⌜ r ≡ coordinateGood x ⌝ }
+// The greatest magnitude of an entry of a matrix.
+const MOST_ENTRY: f64 = 1048576.0;
+
+// The greatest step, width and height.
+const MOST_SIZE: f64 = 1048576.0;
+
+// Whether the magnitude of a number is within a bound.
+fn within(x: f64, most: f64) -> bool
+    requires { ⌜ Bound most ⌝ }
+    ensures { λ r. ⌜ r ≡ withinOf most x ⌝ }
 {
-    if x < -MOST_NUMBER {
+    if x < -most {
         return false;
     }
-    x <= MOST_NUMBER
+    x <= most
 }
 
-// 1 where a coordinate is bad, else 0.
-fn bad_one(x: f64) -> usize
-    ensures { λ r. ⌜ r ≡ cond (coordinateGood x) 0 1 ⌝ }
+// 1 where it is not, else 0.
+fn past(x: f64, most: f64) -> usize
+    requires { ⌜ Bound most ⌝ }
+    ensures { λ r. ⌜ r ≡ cond (withinOf most x) 0 1 ⌝ }
 {
-    if coordinate_good(x) {
+    if within(x, most) {
         return 0;
     }
     1
 }
 
-// Whether all coordinates are. The bad ones are counted: a loop with no way out looks at several at once.
-pub fn coordinates_good(xs: &[f64]) -> bool
-    ensures { λ r. ⌜ r ≡ coordinatesGood (now (xs .entry)) ⌝ }
+// Whether all numbers are. Those that are not are counted: a loop with no way out looks at several at once.
+fn all_within(xs: &[f64], most: f64) -> bool
+    requires { ⌜ Bound most ⌝ }
+    ensures { λ r. ⌜ r ≡ allWithin most (now (xs .entry)) ⌝ }
 {
     let mut bad = 0;
     let mut i = 0;
     while i < xs.len() {
-        bad = bad + bad_one(xs[i]);
+        bad = bad + past(xs[i], most);
         i += 1;
     }
     bad == 0
+}
+
+// Whether a coordinate is within its bound.
+pub fn coordinate_good(x: f64) -> bool
+    ensures { λ r. ⌜ r ≡ coordinateGood x ⌝ }
+{
+    within(x, MOST_COORDINATE)
+}
+
+// Whether all coordinates are.
+pub fn coordinates_good(xs: &[f64]) -> bool
+    ensures { λ r. ⌜ r ≡ coordinatesGood (now (xs .entry)) ⌝ }
+{
+    all_within(xs, MOST_COORDINATE)
+}
+
+// Whether the entries of a matrix are within theirs.
+pub fn entries_good(xs: &[f64]) -> bool
+    ensures { λ r. ⌜ r ≡ entriesGood (now (xs .entry)) ⌝ }
+{
+    all_within(xs, MOST_ENTRY)
 }
 
 // Whether a step is above 0 and within the bound.
@@ -209,7 +239,7 @@ pub fn step_good(x: f64) -> bool
     ensures { λ r. ⌜ r ≡ stepGood x ⌝ }
 {
     if 0.0 < x {
-        return x <= MOST_NUMBER;
+        return x <= MOST_SIZE;
     }
     false
 }
@@ -219,7 +249,7 @@ pub fn size_good(x: f64) -> bool
     ensures { λ r. ⌜ r ≡ sizeGood x ⌝ }
 {
     if 0.0 <= x {
-        return x <= MOST_NUMBER;
+        return x <= MOST_SIZE;
     }
     false
 }

@@ -12,13 +12,13 @@ use Rattle.refusal.specs.declared.Refusal.{Refusal}
 use Rattle.refusal.specs.declared.Verdict.{Verdict}
 use Rattle.refusal.specs.declared.Verdict.the-variants.{Accepted, Refused}
 use Rattle.refusal.specs.Said.{Said, accepted, refused}
-use Rattle.path.specs.Strokes.{goodStarts, numberAt}
+use Rattle.path.specs.Strokes.{goodStarts, numberAt, strokesIn}
 use Rattle.path.specs.Laid.{over, joined, startsFrom}
 use Rattle.path.specs.Tests.{countedOf}
 use Rattle.path.proofs.Tests.{passed, both}
 use Rattle.path.proofs.Pushes.{length-starts, over-sets}
 use Rattle.path.proofs.Again.{strokes-count, table-all}
-use Rattle.path_splice.specs.Text.{strokesIn, part, mark, textOf, marksOf, ReadOut, Filled, LaidOut}
+use Rattle.path_splice.specs.Text.{part, mark, textOf, marksOf, ReadOut, Filled, LaidOut}
 use Rattle.path_splice.specs.Lent.{verdictOf, left, laid, leftBy}
 use Rattle.order.specs.Regions.{region, put}
 use mathlib.Core.Bool.{_&&_}

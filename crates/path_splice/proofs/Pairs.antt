@@ -13,7 +13,7 @@ use lib.Dec.{leb, eqb}
 use borrow.Author.Tests.{le-leb, leb-true, eq-eqb}
 use Rattle.order.specs.Regions.{region, Off, Into2}
 use Rattle.order.proofs.Parts.{into2-none, into2-set, into2-size, into2-region, into2-first, into2-second}
-use Rattle.path.specs.Strokes.{goodFrom, goodStarts, gather, strokesOf, numberAt}
+use Rattle.path.specs.Strokes.{goodFrom, goodStarts, gather, strokesOf, numberAt, strokesIn}
 use Rattle.path_ends.specs.Splice.{firstOf, lastOf, endOf, valueAt, present}
 use Rattle.path_splice.proofs.Tables.{fill-turn}
 use Rattle.refusal.specs.Said.{accepted}
@@ -23,7 +23,7 @@ use Rattle.path_ends.specs.Splice.{splice}
 use Rattle.path_link.specs.Walk.{Woven}
 use Rattle.path_splice.proofs.Answers.{out-points, out-starts, laid-out, wrote}
 use Rattle.path_splice.specs.Lent.{left}
-use Rattle.path_splice.specs.Text.{strokesIn, textOf, marksOf, ReadOut, Filled}
+use Rattle.path_splice.specs.Text.{textOf, marksOf, ReadOut, Filled}
 use Rattle.path_splice.specs.Pairs.{pairsOf, Paired, Drawn, fits, pairsLeft}
 use Rattle.refusal.specs.Limits.{mostStrokes, mostPoints}
 

@@ -13,13 +13,13 @@ use lib.Dec.{leb, eqb}
 use native.Mathlib.Decide.{ℕ-discrete}
 use borrow.Author.Tests.{leb-true, eqb-true}
 use Rattle.order.specs.Regions.{region, put}
-use Rattle.path.specs.Strokes.{goodFrom, goodStarts, strokesOf, gather, numberAt}
+use Rattle.path.specs.Strokes.{goodFrom, goodStarts, strokesOf, gather, numberAt, strokesIn}
 use Rattle.order.proofs.Tests.{neqb}
 use Rattle.path.proofs.Starts.{getD-any}
 use Rattle.path.proofs.Tests.{both}
 use Rattle.path.proofs.Gathers.{gather-drop}
 use Rattle.path.proofs.Again.{strokes-count}
-use Rattle.path_splice.specs.Text.{strokesIn, Spans}
+use Rattle.path_splice.specs.Text.{Spans}
 use Rattle.path_ends.specs.Splice.{firstOf, lastOf, endOf, valueAt, present}
 use Rattle.order.proofs.Parts.{length-region, get-region}
 

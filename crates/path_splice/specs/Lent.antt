@@ -10,13 +10,12 @@ use Rattle.refusal.specs.declared.Verdict.{Verdict}
 use Rattle.refusal.specs.declared.Verdict.the-variants.{Accepted, Refused}
 use Rattle.refusal.specs.Refusals.{unless}
 use Rattle.refusal.specs.Said.{Said, accepted, refused}
-use Rattle.path.specs.Strokes.{goodStarts}
+use Rattle.path.specs.Strokes.{goodStarts, strokesIn}
 use Rattle.path.specs.Laid.{over, joined, startsFrom}
 use Rattle.path.specs.Tests.{countedOf}
 use Rattle.path_ends.specs.Splice.{splice}
 use Rattle.path_splice.specs.declared.Spliced.{Spliced}
 use Rattle.path_splice.specs.declared.Spliced.the-variants as spliced
-use Rattle.path_splice.specs.Text.{strokesIn}
 
 -- the lowest refusal that applies: a table of starts, the limits, 8 words of scratch a stroke, room for as many points and starts as the input
 unfoldable pub verdictOf : List ℕ → List ℕ → ℕ → ℕ → ℕ → Verdict

@@ -6,13 +6,9 @@ use mathlib.Core.List.{List, [], _∷_, _++_, map}
 use Prim.Native.Nat.{ℕ, _+_, _-_, _*_, _/_, _%_, _<_, _≤_}
 use lib.ListN.{length, getD, drop}
 use Rattle.order.specs.Regions.{region, put}
-use Rattle.path.specs.Strokes.{strokesOf, numberAt}
+use Rattle.path.specs.Strokes.{strokesIn}
 use Rattle.path.specs.Laid.{over, joined, startsFrom}
 use Rattle.path_ends.specs.Splice.{isZero, readFrom, valueAt, present}
-
--- strokes of vertex numbers
-abbrev pub strokesIn : List ℕ → List ℕ → List (List ℕ)
-strokesIn ps ss = strokesOf (numberAt ps) (length ps) ss
 
 -- stroke i lies from place a up to place b
 pub record Spans (ps ss : List ℕ) (i a b : ℕ) : Type 0 where

@@ -11,13 +11,13 @@ use lib.Seq.{take-at, drop-at}
 use lib.Dec.{leb, ltb, eqb}
 use borrow.Author.Tests.{leb-true, ltb-true, eqb-true, lt-ltb, eq-eqb}
 use Rattle.refusal.specs.Limits.{mostVertices, mostStrokes, mostPoints}
-use Rattle.path.specs.Strokes.{gather, numberAt}
+use Rattle.path.specs.Strokes.{gather, numberAt, strokesIn}
 use Rattle.path.specs.Laid.{nonEmpty, joined, startsFrom}
 use Rattle.path.proofs.Tests.{both}
 use Rattle.path.proofs.Gathers.{length-gather, gather-drop}
 use Rattle.path.proofs.Pushes.{length-starts}
 use Rattle.mesh.specs.Meshes.{allBelow}
-use Rattle.sheet.specs.Sheets.{modePlace, verticesPlace, strokesPlace, pointsPlace, startsOffset, numbersOffset, headerWords, numbersFrom, bytesOf, bytesAll, wordAt, headerOf, wordsOf, sheetOf, sizeOf, strokesIn, modeIn, verticesIn, strokeCount, pointCount, startsIn, numbersIn, modeGood, countsGood, placesGood, strictFrom, tableGood, headerGood, isSheet}
+use Rattle.sheet.specs.Sheets.{modePlace, verticesPlace, strokesPlace, pointsPlace, startsOffset, numbersOffset, headerWords, numbersFrom, bytesOf, bytesAll, wordAt, headerOf, wordsOf, sheetOf, sizeOf, modeIn, verticesIn, strokeCount, pointCount, startsIn, numbersIn, modeGood, countsGood, placesGood, strictFrom, tableGood, headerGood, isSheet}
 use Rattle.sheet.proofs.Sizes.{words-size}
 use Rattle.sheet.proofs.Modes.{good-most}
 use Rattle.path.proofs.Again.{gather-add, gather-all, joined-all, strokes-again}

@@ -5,7 +5,7 @@ use Prim.Native.Nat.{ℕ, zero, suc, _+_, _*_, _/_, _%_}
 use lib.ListN.{length, getD}
 use lib.Dec.{leb, ltb, eqb}
 use Rattle.refusal.specs.Limits.{mostVertices, mostStrokes, mostPoints}
-use Rattle.path.specs.Strokes.{gather, strokesOf, numberAt}
+use Rattle.path.specs.Strokes.{gather}
 use Rattle.path.specs.Laid.{nonEmpty, joined, startsFrom}
 use Rattle.mesh.specs.Meshes.{allBelow}
 
@@ -21,10 +21,6 @@ bytesAll (w ∷ ws) = bytesOf w ++ bytesAll ws
 -- the k-th word of bytes; a byte past the end is 0
 unfoldable pub wordAt : List ℕ → ℕ → ℕ
 wordAt bs k = getD bs (k * 4) 0 + 256 * getD bs (k * 4 + 1) 0 + 65536 * getD bs (k * 4 + 2) 0 + 16777216 * getD bs (k * 4 + 3) 0
-
--- the strokes of a list of numbers and a table of starts
-abbrev pub strokesIn : List ℕ → List ℕ → List (List ℕ)
-strokesIn ns ss = strokesOf (numberAt ns) (length ns) ss
 
 -- ---- the places of the words
 

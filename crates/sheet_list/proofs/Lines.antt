@@ -9,19 +9,21 @@ use lib.Seq.{sets}
 use lib.Dec.{leb, ltb, eqb}
 use borrow.Author.Tests.{eqb-true, le-leb, lt-leb}
 use Rattle.refusal.specs.Limits.{mostStrokes}
-use Rattle.path.specs.Strokes.{goodFrom, goodStarts, gather, strokesOf, numberAt}
+use Rattle.refusal.specs.declared.Refusal.the-variants.{Count, Sheet}
+use Rattle.refusal.specs.Refusals.{numberOf}
+use Rattle.path.specs.Strokes.{goodFrom, goodStarts, gather, strokesOf, numberAt, strokesIn}
 use Rattle.path.specs.Laid.{joined, Pen, pen, inked}
 use Rattle.path.proofs.Tests.{both}
 use Rattle.path.proofs.Starts.{getD-any, table-next}
 use Rattle.path.proofs.Pushes.{ink-none, ink-place}
 use Rattle.path.proofs.Points.{numbers-lie}
 use Rattle.path.proofs.Gathers.{length-gather, strokes-more, strokes-none}
-use Rattle.sheet.specs.Sheets.{headerWords, numbersFrom, wordAt, modeIn, verticesIn, strokesIn, strokeCount, pointCount, startsIn, numbersIn, isSheet}
+use Rattle.sheet.specs.Sheets.{modePlace, startsOffset, headerWords, numbersFrom, wordAt, modeIn, verticesIn, strokeCount, pointCount, startsIn, numbersIn, isSheet}
 use Rattle.sheet.proofs.Sizes.{limits}
 use Rattle.path.proofs.Again.{joined-all, strokes-count}
 use Rattle.sheet.proofs.Tables.{table-good}
 use Rattle.sheet.proofs.Back.{gather-same, tested}
-use Rattle.sheet_list.specs.Listing.{digitsFrom, decimal, spaced, lineOf, linesOf, numberIn, numbersAt, listed, refusedText, mostBytes, textOf}
+use Rattle.sheet_list.specs.Listing.{digitsFrom, decimal, spaced, lineOf, linesOf, numberIn, numbersAt, listed, refusedText, mostBytes, mostText, textOf}
 use Rattle.sheet_list.proofs.Inks.{ink-two, start-in}
 
 -- the numbers of a stroke, counted from the first number and from the first word
@@ -121,7 +123,7 @@ lines-size (s ∷ ss) =
     let l = line-size s in
     omega (arith, length-append (lineOf s) (linesOf ss), length-append s (joined ss))
 
-pub listed-size : (bs : List ℕ) → isSheet bs ≡ true → length bs ≤ mostBytes → length (listed bs) ≤ 196608
+pub listed-size : (bs : List ℕ) → isSheet bs ≡ true → length bs ≤ mostBytes → length (listed bs) ≤ mostText
 unfolding listed
 listed-size bs h l =
     let t = tested bs h .size in
@@ -136,14 +138,14 @@ listed-size bs h l =
     let first = line-size (modeIn bs ∷ verticesIn bs ∷ strokeCount bs ∷ pointCount bs ∷ []) in
     omega (arith, length-append (lineOf (modeIn bs ∷ verticesIn bs ∷ strokeCount bs ∷ pointCount bs ∷ [])) (linesOf (strokesIn ns ss)))
 
-pub refused-size : (n : ℕ) → length (refusedText n) ≤ 196608
+pub refused-size : (n : ℕ) → length (refusedText n) ≤ mostText
 unfolding refusedText
 refused-size n = let l = line-size (n ∷ []) in omega arith
 
 -- ---- the call
 
 -- the lines of all strokes after line one
-pub listed-put : (bs b : List ℕ) → isSheet bs ≡ true → (s p : ℕ) → s ≡ strokeCount bs → p ≡ pointCount bs → (b₁ b₂ : List ℕ) (k₁ k₂ : ℕ) → pen b₁ k₁ ≡ inked sets (pen b 0) (lineOf (gather (wordAt bs) 0 4))
+pub listed-put : (bs b : List ℕ) → isSheet bs ≡ true → (s p : ℕ) → s ≡ strokeCount bs → p ≡ pointCount bs → (b₁ b₂ : List ℕ) (k₁ k₂ : ℕ) → pen b₁ k₁ ≡ inked sets (pen b 0) (lineOf (gather (wordAt bs) modePlace startsOffset))
     → pen b₂ k₂ ≡ inked sets (pen b₁ k₁) (linesOf (strokesOf (numberIn bs s) p (gather (wordAt bs) headerWords s))) → pen b₂ k₂ ≡ inked sets (pen b 0) (listed bs)
 unfolding listed gather startsIn
 listed-put bs b h s p es ep b₁ b₂ k₁ k₂ e₁ e₂ =
@@ -151,15 +153,15 @@ listed-put bs b h s p es ep b₁ b₂ k₁ k₂ e₁ e₂ =
     e₂ ∙ ap (λ (l : List (List ℕ)). inked sets (pen b₁ k₁) (linesOf l)) g ∙ ink-two b 0 _ _ e₁
 
 -- how long what is written is
-pub long : (b : List ℕ) (t : List ℕ) {b′ : List ℕ} {k : ℕ} → pen b′ k ≡ inked sets (pen b 0) t → length t ≤ 196608 → k ≤ 196608
+pub long : (b : List ℕ) (t : List ℕ) {b′ : List ℕ} {k : ℕ} → pen b′ k ≡ inked sets (pen b 0) t → length t ≤ mostText → k ≤ mostText
 long b t e h = omega (arith, ink-place sets (pen b 0) t e)
 
 module _ (bs : List ℕ) where
-  pub text-long : mostBytes < length bs → textOf bs ≡ refusedText 2
+  pub text-long : mostBytes < length bs → textOf bs ≡ refusedText (numberOf Count)
   unfolding textOf
   text-long h = rw (lt-leb (length bs) mostBytes h)
 
-  pub text-none : length bs ≤ mostBytes → isSheet bs ≡ false → textOf bs ≡ refusedText 9
+  pub text-none : length bs ≤ mostBytes → isSheet bs ≡ false → textOf bs ≡ refusedText (numberOf Sheet)
   unfolding textOf
   text-none h e = rw (le-leb (length bs) mostBytes h, e)
 
@@ -168,7 +170,7 @@ module _ (bs : List ℕ) where
   text-some h e = rw (le-leb (length bs) mostBytes h, e)
 
 -- the two returns
-pub text-is : (b t u : List ℕ) {b′ : List ℕ} {k : ℕ} → pen b′ k ≡ inked sets (pen b 0) t → u ≡ t → length t ≤ 196608 → (pen b′ k ≡ inked sets (pen b 0) u) × (k ≤ 196608)
+pub text-is : (b t u : List ℕ) {b′ : List ℕ} {k : ℕ} → pen b′ k ≡ inked sets (pen b 0) t → u ≡ t → length t ≤ mostText → (pen b′ k ≡ inked sets (pen b 0) u) × (k ≤ mostText)
 text-is b t u e q h = (e ∙ ap (inked sets (pen b 0)) (sym q), long b t e h)
 
 -- the number in a refusal is the code's
@@ -176,4 +178,4 @@ pub same-refusal : (b : List ℕ) (n m : ℕ) {b′ : List ℕ} {k : ℕ} → pe
 same-refusal b n m e q = e ∙ ap (λ (x : ℕ). inked sets (pen b 0) (refusedText x)) q
 
 pub few-strokes : (bs : List ℕ) → isSheet bs ≡ true → strokeCount bs ≤ mostStrokes
-few-strokes bs h = limits (wordAt bs 1) (strokeCount bs) (pointCount bs) (tested bs h .counts) .0
+few-strokes bs h = limits (verticesIn bs) (strokeCount bs) (pointCount bs) (tested bs h .counts) .0

@@ -4,9 +4,11 @@ use mathlib.Core.List.{List, [], _∷_, _++_, map}
 use Prim.Native.Nat.{ℕ, zero, suc, _+_, _-_, _*_, _/_, _%_}
 use lib.ListN.{length}
 use lib.Dec.{leb, ltb}
-use Rattle.path.specs.Strokes.{gather}
+use Rattle.refusal.specs.declared.Refusal.the-variants.{Count, Sheet}
+use Rattle.refusal.specs.Refusals.{numberOf}
+use Rattle.path.specs.Strokes.{gather, strokesIn}
 use Rattle.path.specs.Laid.{joined}
-use Rattle.sheet.specs.Sheets.{numbersFrom, wordAt, strokesIn, modeIn, verticesIn, strokeCount, pointCount, startsIn, numbersIn, isSheet}
+use Rattle.sheet.specs.Sheets.{numbersFrom, wordAt, modeIn, verticesIn, strokeCount, pointCount, startsIn, numbersIn, isSheet}
 
 -- the power of ten of n's first digit, from the power p on, at most f powers up
 unfoldable pub topFrom : ℕ → ℕ → ℕ → ℕ
@@ -55,6 +57,10 @@ refusedText n = 114 ∷ 101 ∷ 102 ∷ 117 ∷ 115 ∷ 101 ∷ 100 ∷ 32 ∷ l
 abbrev pub mostBytes : ℕ
 mostBytes = 65536
 
+-- the most that their text has
+abbrev pub mostText : ℕ
+mostText = 3 * mostBytes
+
 -- a longer input is 2, and bytes that are no sheet are 9
 unfoldable pub textOf : List ℕ → List ℕ
-textOf bs = cond (leb (length bs) mostBytes) (cond (isSheet bs) (listed bs) (refusedText 9)) (refusedText 2)
+textOf bs = cond (leb (length bs) mostBytes) (cond (isSheet bs) (listed bs) (refusedText (numberOf Sheet))) (refusedText (numberOf Count))

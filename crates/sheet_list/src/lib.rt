@@ -20,10 +20,12 @@ ghost use Rattle.path.specs.Strokes.{gather, strokesOf};
 ghost use Rattle.path.specs.Laid.{pen, inked};
 ghost use Rattle.refusal.specs.Limits.{mostStrokes};
 ghost use Rattle.sheet.specs.Sheets.{headerWords, wordAt, isSheet};
-ghost use Rattle.sheet_list.specs.Listing.{topFrom, digitsFrom, decimal, spaced, lineOf, linesOf, numberIn, numbersAt, listed, refusedText, textOf};
+ghost use Rattle.sheet_list.specs.Listing.{topFrom, digitsFrom, decimal, spaced, lineOf, linesOf, numberIn, numbersAt, listed, refusedText, mostText, textOf};
 
-// The most bytes that are listed.
-const MOST_BYTES: usize = 65536;
+// The most bytes that are listed, and the most that their text has: three for each.
+pub const MOST_BYTES: usize = 65536;
+
+pub const MOST_TEXT: usize = 3 * MOST_BYTES;
 
 // The greatest power of ten that is not above x; 1 for 0.
 fn top(x: u32) -> u32
@@ -167,7 +169,7 @@ fn write_listed(bytes: &[u8], out: &mut [u8]) -> usize
 // Stores the text that lists the bytes, as far as there is room, and answers how long it is.
 pub fn list(bytes: &[u8], out: &mut [u8]) -> usize
     ensures { λ r. ⌜ pen (now (out .exit)) r ≡ inked sets (pen (now (out .entry)) 0) (textOf (now (bytes .entry))) ⌝ }
-    ensures { λ r. ⌜ r ≤ 196608 ⌝ }
+    ensures { λ r. ⌜ r ≤ mostText ⌝ }
 {
     if MOST_BYTES < bytes.len() {
         return write_refused(number(Refusal::Count), out);

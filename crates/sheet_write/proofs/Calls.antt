@@ -13,12 +13,12 @@ use Rattle.refusal.specs.Said.{accepted, refused}
 use Rattle.refusal.specs.declared.Refusal.{Refusal}
 use Rattle.refusal.specs.declared.Verdict.{Verdict}
 use Rattle.refusal.specs.declared.Verdict.the-variants.{Accepted, Refused}
-use Rattle.path.specs.Strokes.{goodStarts, numberAt}
+use Rattle.path.specs.Strokes.{goodStarts, numberAt, strokesIn}
 use Rattle.path.specs.Laid.{over, nonEmpty}
 use Rattle.path.proofs.Tests.{passed}
 use Rattle.path.proofs.Pushes.{over-sets}
 use Rattle.sheet.specs.Kept.{keptFrom}
-use Rattle.sheet.specs.Sheets.{headerWords, numbersFrom, bytesAll, headerOf, wordsOf, sheetOf, sizeOf, strokesIn}
+use Rattle.sheet.specs.Sheets.{headerWords, numbersFrom, bytesAll, headerOf, wordsOf, sheetOf, sizeOf}
 use Rattle.sheet.proofs.Words.{put-more}
 use Rattle.path.proofs.Again.{joined-all}
 use Rattle.sheet.proofs.Tables.{kept-all, kept-count}

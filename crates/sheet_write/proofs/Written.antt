@@ -9,13 +9,13 @@ use lib.Dec.{leb, ltb}
 use borrow.Author.Tests.{ltb-true, le-leb}
 use Rattle.refusal.specs.Limits.{mostVertices, mostStrokes, mostPoints}
 use Rattle.refusal.specs.declared.Verdict.the-variants.{Accepted}
-use Rattle.path.specs.Strokes.{numberAt}
+use Rattle.path.specs.Strokes.{numberAt, strokesIn}
 use Rattle.path.specs.Laid.{nonEmpty, joined, startsFrom}
 use Rattle.path.proofs.Tests.{passed}
 use Rattle.path.proofs.Pushes.{no-more-kept}
 use Rattle.mesh.specs.Meshes.{allBelow}
 use Rattle.sheet.proofs.Modes.{word-good}
-use Rattle.sheet.specs.Sheets.{modeWord, strokesIn, sheetOf, modeGood, countsGood, startsIn, numbersIn}
+use Rattle.sheet.specs.Sheets.{modeWord, sheetOf, modeGood, countsGood, startsIn, numbersIn}
 use Rattle.sheet.proofs.Sizes.{limits}
 use Rattle.path.proofs.Again.{joined-all, strokes-count}
 use Rattle.sheet.proofs.Back.{Readable, sheet-back, read-back}

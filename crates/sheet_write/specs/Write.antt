@@ -8,10 +8,10 @@ use Rattle.refusal.specs.declared.Verdict.{Verdict}
 use Rattle.refusal.specs.declared.Verdict.the-variants.{Accepted, Refused}
 use Rattle.refusal.specs.Refusals.{unless}
 use Rattle.refusal.specs.Said.{Said, accepted, refused}
-use Rattle.path.specs.Strokes.{goodStarts}
+use Rattle.path.specs.Strokes.{goodStarts, strokesIn}
 use Rattle.path.specs.Laid.{over, nonEmpty}
 use Rattle.mesh.specs.Meshes.{allBelow}
-use Rattle.sheet.specs.Sheets.{modeWord, strokesIn, sheetOf, sizeOf, countsGood}
+use Rattle.sheet.specs.Sheets.{modeWord, sheetOf, sizeOf, countsGood}
 use Rattle.sheet_write.specs.declared.SheetWritten.{SheetWritten}
 use Rattle.sheet_write.specs.declared.SheetWritten.the-variants as W
 

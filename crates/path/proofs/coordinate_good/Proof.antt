@@ -1,13 +1,15 @@
--- `coordinate_good` meets its contract.
-use Rattle.path.proofs.Bounds.{too-low, not-low}
+-- `coordinate_good` meets its contract: its bound is a power of two.
+use mathlib.Core.Path.{refl}
+use lib.Ieee.{ofBits}
 use Rattle.path.proofs.coordinate_good.Statement.{statement}
 use Rattle.path.proofs.coordinate_good.Tie as tie
 
-returns : tie.Need-returns
-returns c = too-low (c .before .args .x) (c .if1 .taken)
+within-requires : tie.Need-within-requires
+unfolding ofBits
+within-requires c κs = record { power = 20; is = refl }
 
-returns-2 : tie.Need-returns-2
-returns-2 c = not-low (c .before .args .x) (c .if1 .left)
+returns : tie.Need-returns
+returns c = c .within .ensures
 
 pub coordinate-good-spec : {M : Type 1} → statement M
-coordinate-good-spec = tie.close (tie.spec returns returns-2)
+coordinate-good-spec = tie.close (tie.spec within-requires returns)

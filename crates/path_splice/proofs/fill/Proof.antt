@@ -4,10 +4,9 @@ use mathlib.Core.Path.{sym}
 use Prim.Native.Nat.{_-_, _*_}
 use lib.ListN.{length}
 use lib.Seq.{length-take-le}
-use Rattle.path_splice.specs.Text.{strokesIn}
 use Rattle.path.proofs.Again.{strokes-count}
 use Rattle.path_splice.proofs.Readings.{filled}
-use Rattle.path.specs.Strokes.{numberAt}
+use Rattle.path.specs.Strokes.{numberAt, strokesIn}
 use borrow.Author.Needs.{needs}
 use Rattle.path_splice.proofs.fill.Statement.{statement}
 use Rattle.path_splice.proofs.fill.Tie as tie

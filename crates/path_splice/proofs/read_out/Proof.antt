@@ -3,7 +3,7 @@ use native.Mathlib.Omega.{arith}
 use mathlib.Core.Path.{_≡_, refl}
 use Prim.Native.Nat.{_-_, _≤_}
 use lib.ListN.{length}
-use Rattle.path_splice.specs.Text.{strokesIn}
+use Rattle.path.specs.Strokes.{strokesIn}
 use Rattle.path_splice.proofs.Readings.{Reading, reading, point-room, mark-room, reading-more, read-all}
 use borrow.Author.Needs.{needs}
 use Rattle.path_splice.proofs.read_out.Statement.{statement}

@@ -18,7 +18,7 @@ same-length c = search needs
 returns : tie.Need-returns
 returns c =
     let a = c .before .before .before .before .before .before .before .before .args in
-    text-is (a .out .now) _ _ (same-refusal (a .out .now) _ _ (c .before .before .write-refused .ensures) (c .before .before .before .before .number .ensures)) (text-long (a .bytes .now) (c .before .before .before .before .before .if1 .taken)) (refused-size 2)
+    text-is (a .out .now) _ _ (same-refusal (a .out .now) _ _ (c .before .before .write-refused .ensures) (c .before .before .before .before .number .ensures)) (text-long (a .bytes .now) (c .before .before .before .before .before .if1 .taken)) (refused-size _)
 
 is-sheet-requires : tie.Need-is-sheet-requires
 is-sheet-requires c κs = search needs
@@ -35,7 +35,7 @@ same-length-2 c = search needs
 returns-2 : tie.Need-returns-2
 returns-2 c =
     let a = c .before .before .before .before .before .before .before .before .before .before .args in
-    text-is (a .out .now) _ _ (same-refusal (a .out .now) _ _ (c .before .before .write-refused2 .ensures) (c .before .before .before .before .number2 .ensures)) (text-none (a .bytes .now) (c .before .before .before .before .before .before .before .if1 .left) (sym (c .before .before .before .before .before .before .is-sheet .ensures) ∙ not-true _ (c .before .before .before .before .before .if2 .taken))) (refused-size 9)
+    text-is (a .out .now) _ _ (same-refusal (a .out .now) _ _ (c .before .before .write-refused2 .ensures) (c .before .before .before .before .number2 .ensures)) (text-none (a .bytes .now) (c .before .before .before .before .before .before .before .if1 .left) (sym (c .before .before .before .before .before .before .is-sheet .ensures) ∙ not-true _ (c .before .before .before .before .before .if2 .taken))) (refused-size _)
 
 write-listed-requires : tie.Need-write-listed-requires
 write-listed-requires c κs = sym (c .before .before .is-sheet .ensures) ∙ not-false _ (c .before .if2 .left)
