@@ -38,23 +38,17 @@ fn line(what: &[u8], n: u64) {
 }
 
 fn section_status(r: Sectioned) -> u64 {
-    match r {
-        Sectioned::Wrote {
-            points: _,
-            starts: _,
-        } => 0,
-        Sectioned::Refused(why) => refusal::number(why) as u64,
+    if let Sectioned::Refused(why) = r {
+        return refusal::number(why) as u64;
     }
+    0
 }
 
 fn chop_status(r: Chopped) -> u64 {
-    match r {
-        Chopped::Wrote {
-            points: _,
-            starts: _,
-        } => 0,
-        Chopped::Refused(why) => refusal::number(why) as u64,
+    if let Chopped::Refused(why) = r {
+        return refusal::number(why) as u64;
     }
+    0
 }
 
 // An adaptive cut's status, and what it wrote.
@@ -77,24 +71,17 @@ fn adapted_line(what: &[u8], r: Adapted) {
 }
 
 fn simplify_status(r: Simplified) -> u64 {
-    match r {
-        Simplified::Wrote {
-            points: _,
-            starts: _,
-            distances: _,
-        } => 0,
-        Simplified::Refused(why) => refusal::number(why) as u64,
+    if let Simplified::Refused(why) = r {
+        return refusal::number(why) as u64;
     }
+    0
 }
 
 fn weld_status(r: Welded) -> u64 {
-    match r {
-        Welded::Wrote {
-            vertices: _,
-            indices: _,
-        } => 0,
-        Welded::Refused(why) => refusal::number(why) as u64,
+    if let Welded::Refused(why) = r {
+        return refusal::number(why) as u64;
     }
+    0
 }
 
 // The plane x = 1 through (1, 0, 0).

@@ -30,7 +30,7 @@ use Rattle.mesh_strokes.specs.Strokes as L
 use Rattle.mesh_strokes.proofs.Drawn as D
 use Rattle.mesh_draw.specs.Call as C
 use Rattle.mesh_draw.specs.declared.Drawing.the-variants as drawing
-use Rattle.demand3.specs.Demand3.{strokesLeft, Draws, keptPair}
+use Rattle.demand3.specs.Demand3.{strokesWritten, Draws, keptPair}
 use Rattle.demand3.proofs.Pairs.{once}
 
 -- what splicing keeps of some strokes, said of how often each pair is to be drawn
@@ -44,7 +44,7 @@ draws given out times d h =
     }
 
 -- what lies in two lists after strokes were laid over them, read by their counts
-read : (ss : List (List ℕ)) (op os op′ os′ : List ℕ) (p q : ℕ) → _≡_ {A = List ℕ} (p ∷ q ∷ []) (length (joined ss) ∷ length ss ∷ []) → op′ ≡ over op (joined ss) → os′ ≡ over os (startsFrom 0 ss) → ss ≡ strokesLeft p q op′ os′
+read : (ss : List (List ℕ)) (op os op′ os′ : List ℕ) (p q : ℕ) → _≡_ {A = List ℕ} (p ∷ q ∷ []) (length (joined ss) ∷ length ss ∷ []) → op′ ≡ over op (joined ss) → os′ ≡ over os (startsFrom 0 ss) → ss ≡ strokesWritten p q op′ os′
 read ss op os op′ os′ p q e f g =
     let a : p ≡ length (joined ss) = ap (λ (l : List ℕ). getD l 0 0) e in
     let b : q ≡ length ss = ap (λ (l : List ℕ). getD l 1 0) e in
@@ -54,7 +54,7 @@ read ss op os op′ os′ p q e f g =
 
 module _ (ps ss s op os : List ℕ) where
   splice-accepted : (v : Verdict) (p q : ℕ) (s′ op′ os′ : List ℕ) → S.left (accepted (p ∷ q ∷ [])) s′ op′ os′ ≡ S.leftBy v (splice 0 eqb (strokesIn ps ss)) s op os
-      → splice 0 eqb (strokesIn ps ss) ≡ strokesLeft p q op′ os′
+      → splice 0 eqb (strokesIn ps ss) ≡ strokesWritten p q op′ os′
   unfolding S.leftBy S.laid
   splice-accepted Accepted p q s′ op′ os′ e =
       read (splice 0 eqb (strokesIn ps ss)) op os op′ os′ p q (same-values (ap (λ (l : S.Left). l .answer) e)) (ap (λ (l : S.Left). l .points) e) (ap (λ (l : S.Left). l .starts) e)
@@ -62,7 +62,7 @@ module _ (ps ss s op os : List ℕ) where
 
   -- whatever an accepted splice leaves, each pair of the strokes given is drawn as often as there
   pub splice-demand3 : (p q : ℕ) (s′ op′ os′ : List ℕ) → S.left (S.said (spliced.Wrote p q)) s′ op′ os′ ≡ S.spliceLeft ps ss s op os
-      → Draws (λ a b. drawn eqb a b (strokesIn ps ss)) (strokesLeft p q op′ os′)
+      → Draws (λ a b. drawn eqb a b (strokesIn ps ss)) (strokesWritten p q op′ os′)
   unfolding S.spliceLeft
   splice-demand3 p q s′ op′ os′ e =
       subst (Draws (λ a b. drawn eqb a b (strokesIn ps ss))) (splice-accepted (S.verdictOf ps ss (length s) (length op) (length os)) p q s′ op′ os′ e)
@@ -100,7 +100,7 @@ module _ (vs : List Float) (is flips : List ℕ) (number : ℕ) (cosine : Float)
   kept-once h a b = once (kept (C.modeNamed number cosine) (seenBy eye vs is) flips tolerance) is (words h) a b
 
   draw-accepted : (v : Verdict) (p q : ℕ) (s′ : List ℕ) (f′ : List Float) (op′ os′ : List ℕ) → L.left (accepted (p ∷ q ∷ [])) s′ f′ op′ os′ ≡ C.leftBy v drawn-of s f op os
-      → (v ≡ Accepted) × (drawn-of ≡ strokesLeft p q op′ os′)
+      → (v ≡ Accepted) × (drawn-of ≡ strokesWritten p q op′ os′)
   unfolding C.leftBy L.laid
   draw-accepted Accepted p q s′ f′ op′ os′ e =
       (refl, read drawn-of op os op′ os′ p q (same-values (ap (λ (l : L.Left). l .answer) e)) (ap (λ (l : L.Left). l .points) e) (ap (λ (l : L.Left). l .starts) e))
@@ -109,7 +109,7 @@ module _ (vs : List Float) (is flips : List ℕ) (number : ℕ) (cosine : Float)
   -- whatever an accepted draw leaves: each kept edge once and none invented; then as few open strokes as those edges allow
   pub draw-demand3 : (p q : ℕ) (s′ : List ℕ) (f′ : List Float) (op′ os′ : List ℕ)
       → L.left (C.said (drawing.Wrote p q)) s′ f′ op′ os′ ≡ C.drawLeft vs is flips number cosine eye tolerance s f op os
-      → Draws onceKept (strokesLeft p q op′ os′)
+      → Draws onceKept (strokesWritten p q op′ os′)
   unfolding C.drawLeft
   draw-demand3 p q s′ f′ op′ os′ e =
       let g = draw-accepted verdict p q s′ f′ op′ os′ e in

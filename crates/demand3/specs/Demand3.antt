@@ -16,8 +16,8 @@ use Rattle.mesh_edges.specs.Edges.{faceOf, nextCorner, upFrom}
 use Rattle.mesh_strokes.specs.Draw.{kept, seenBy}
 
 -- the strokes in two lists, of which the first p numbers and the first q starts were written
-abbrev pub strokesLeft : ℕ → ℕ → List ℕ → List ℕ → List (List ℕ)
-strokesLeft p q points starts = strokesIn (take p points) (take q starts)
+abbrev pub strokesWritten : ℕ → ℕ → List ℕ → List ℕ → List (List ℕ)
+strokesWritten p q points starts = strokesIn (take p points) (take q starts)
 
 -- strokes that draw each pair a b, in either direction, exactly `times a b` times
 pub record Draws (times : ℕ → ℕ → ℕ) (strokes : List (List ℕ)) : Type 0 where
