@@ -1,17 +1,19 @@
--- `mirror_run` meets its contract.
+-- `mirror_run` meets its contract. The ends at the places from p up to x are linked by their mirrors in the run, and no
+-- other word is changed; the places of the run that are left fall.
 use native.Mathlib.Omega.{arith}
 use mathlib.Core.Path.{_≡_, refl}
 use Prim.Native.Nat.{_+_, _-_, _*_, _≤_}
 use lib.ListN.{length, length-set}
 use Rattle.order.specs.Regions.{region, Into}
 use Rattle.path_link.specs.Runs.{Mirrored}
+use Rattle.path_link.specs.Layout.{orderAt, linksAt, linksIn}
 use Rattle.path_link.proofs.Mirroring.{mirrors-none, end-lt, mirrors-more, mirrors-all}
 use borrow.Author.Needs.{needs}
 use Rattle.path_link.proofs.mirror_run.Statement.{statement}
 use Rattle.path_link.proofs.mirror_run.Tie as tie
 
 abbrev Inv-loop : tie.InvT-loop
-Inv-loop s₀ n c p q x₀ s x = (p ≤ x) × (x ≤ q) × (length s ≡ length s₀) × Into s₀ s (4 * n) (2 * n) (λ ls. Mirrored (region s₀ (2 * n) c) (region s₀ (4 * n) (2 * n)) ls p q x)
+Inv-loop s₀ n c p q x₀ s x = (p ≤ x) × (x ≤ q) × (length s ≡ length s₀) × Into s₀ s (linksAt n) (2 * n) (λ ls. Mirrored (region s₀ (orderAt n) c) (linksIn s₀ n) ls p q x)
 
 abbrev μ-loop : tie.MeasureT-loop
 μ-loop s₀ n c p q x₀ s x = q - x

@@ -1,4 +1,5 @@
--- `run` meets its contract.
+-- `run` meets its contract. The stroke of e is still to do, and the chain walked so far with the one from e on is the
+-- chain from the start; the room for ends that is left falls.
 use mathlib.Core.Path.{_≡_, refl, ap}
 use Prim.Native.Nat.{_-_, _*_, _<_, _≤_}
 use native.Mathlib.Omega.{arith}
@@ -6,13 +7,14 @@ use lib.ListN.{length, length-set}
 use borrow.Author.Needs.{needs}
 use Rattle.order.specs.Regions.{region, Into2}
 use Rattle.path_link.specs.Links.{wordOf}
+use Rattle.path_link.specs.Layout.{orderAt, todoAt, linksIn, todoIn}
 use Rattle.path_link.proofs.Loop.{Walking}
 use Rattle.path_link.proofs.Threads.{runs-none, end-lt, place-lt, within-more, runs-finish, runs-turn}
 use Rattle.path_link.proofs.run.Statement.{statement}
 use Rattle.path_link.proofs.run.Tie as tie
 
 abbrev Inv-loop : tie.InvT-loop
-Inv-loop s₀ n at e₀ k₀ f₀ s e k f = (e .0 < 2 * n) × (k < n) × (f ≤ 1) × (length s ≡ length s₀) × Into2 s₀ s (6 * n) n (2 * n) n (λ t o. Walking (region s₀ (4 * n) (2 * n)) (region s₀ (6 * n) n) (region s₀ (2 * n) n) at (e₀ .0) t o (e .0) k f)
+Inv-loop s₀ n at e₀ k₀ f₀ s e k f = (e .0 < 2 * n) × (k < n) × (f ≤ 1) × (length s ≡ length s₀) × Into2 s₀ s (todoAt n) n (orderAt n) n (λ t o. Walking (linksIn s₀ n) (todoIn s₀ n) (region s₀ (orderAt n) n) at (e₀ .0) t o (e .0) k f)
 
 abbrev μ-loop : tie.MeasureT-loop
 μ-loop s₀ n at e₀ k₀ f₀ s e k f = n - k
