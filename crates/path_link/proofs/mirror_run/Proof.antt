@@ -2,8 +2,8 @@
 -- other word is changed; the places of the run that are left fall.
 use native.Mathlib.Omega.{arith}
 use mathlib.Core.Path.{_≡_, refl}
-use Prim.Native.Nat.{_+_, _-_, _*_, _≤_}
-use lib.ListN.{length, length-set}
+use Prim.Native.Nat.{ℕ, _+_, _-_, _*_, _<_, _≤_}
+use lib.ListN.{length, getD, length-set}
 use Rattle.order.specs.Regions.{region, Into}
 use Rattle.path_link.specs.Runs.{Mirrored}
 use Rattle.path_link.specs.Layout.{orderAt, linksAt, linksIn}
@@ -22,6 +22,13 @@ loop-holds : tie.Need-loop-holds Inv-loop μ-loop
 loop-holds c =
     let z = c .before in
     (omega arith, omega arith, refl, mirrors-none (z .args .s .now) (z .args .n) (z .args .c) (z .args .p) (z .args .q) (z .pre .0 .0) (z .pre .0 .2) (z .pre .0 .4) (z .pre .1 .0) (z .pre .1 .1))
+
+-- the words of the order are ends
+end-at : (c : tie.At-loop Inv-loop μ-loop) (y : ℕ) → let z = c .before .before in y < z .args .c → getD (c .loop .s) (2 * z .args .n + y) 0 < 2 * z .args .n
+end-at c =
+    let z = c .before .before in
+    let l = c .loop in
+    end-lt (z .args .s .now) (z .args .n) (z .args .c) (z .args .p) (z .args .q) (z .pre .0 .0) (z .pre .0 .2) (z .pre .0 .4) (z .pre .1 .0) (z .pre .1 .1) (l .s) (l .x) (l .inv .3)
 
 mul-e : tie.Need-mul-e Inv-loop μ-loop
 mul-e c = search needs
@@ -60,13 +67,13 @@ cast-t12 : tie.Need-cast-t12 Inv-loop μ-loop
 cast-t12 c =
     let z = c .before .before .before .before .before in
     let l = c .before .before .before .loop in
-    omega (arith, z .pre .0 .1, end-lt (z .args .s .now) (z .args .n) (z .args .c) (z .args .p) (z .args .q) (z .pre .0 .0) (z .pre .0 .2) (z .pre .0 .4) (z .pre .1 .0) (z .pre .1 .1) (l .s) (l .x) (l .inv .3) (l .x) (omega arith))
+    omega (arith, z .pre .0 .1, end-at (c .before .before .before) (l .x) (omega arith))
 
 cast-t13 : tie.Need-cast-t13 Inv-loop μ-loop
 cast-t13 c =
     let z = c .before .before .before .before .before in
     let l = c .before .before .before .loop in
-    omega (arith, z .pre .0 .1, end-lt (z .args .s .now) (z .args .n) (z .args .c) (z .args .p) (z .args .q) (z .pre .0 .0) (z .pre .0 .2) (z .pre .0 .4) (z .pre .1 .0) (z .pre .1 .1) (l .s) (l .x) (l .inv .3) (z .args .p + z .args .q - 1 - l .x) (omega arith))
+    omega (arith, z .pre .0 .1, end-at (c .before .before .before) (z .args .p + z .args .q - 1 - l .x) (omega arith))
 
 mirror-link-requires : tie.Need-mirror-link-requires Inv-loop μ-loop
 mirror-link-requires c κs = search needs
@@ -78,31 +85,31 @@ cast-i : tie.Need-cast-i Inv-loop μ-loop
 cast-i c =
     let z = c .before .before .before .before .before .before in
     let l = c .before .before .before .before .loop in
-    omega (arith, z .pre .0 .1, end-lt (z .args .s .now) (z .args .n) (z .args .c) (z .args .p) (z .args .q) (z .pre .0 .0) (z .pre .0 .2) (z .pre .0 .4) (z .pre .1 .0) (z .pre .1 .1) (l .s) (l .x) (l .inv .3) (l .x) (omega arith))
+    omega (arith, z .pre .0 .1, end-at (c .before .before .before .before) (l .x) (omega arith))
 
 add-i : tie.Need-add-i Inv-loop μ-loop
 add-i c =
     let z = c .before .before .before .before .before .before in
     let l = c .before .before .before .before .loop in
-    omega (arith, z .pre .0 .1, end-lt (z .args .s .now) (z .args .n) (z .args .c) (z .args .p) (z .args .q) (z .pre .0 .0) (z .pre .0 .2) (z .pre .0 .4) (z .pre .1 .0) (z .pre .1 .1) (l .s) (l .x) (l .inv .3) (l .x) (omega arith))
+    omega (arith, z .pre .0 .1, end-at (c .before .before .before .before) (l .x) (omega arith))
 
 word-of-requires : tie.Need-word-of-requires Inv-loop μ-loop
 word-of-requires c κs =
     let z = c .before .before .before .before .before .before in
     let l = c .before .before .before .before .loop in
-    omega (arith, c .mirror-link .ensures .1, z .pre .0 .1, end-lt (z .args .s .now) (z .args .n) (z .args .c) (z .args .p) (z .args .q) (z .pre .0 .0) (z .pre .0 .2) (z .pre .0 .4) (z .pre .1 .0) (z .pre .1 .1) (l .s) (l .x) (l .inv .3) (z .args .p + z .args .q - 1 - l .x) (omega arith))
+    omega (arith, c .mirror-link .ensures .1, z .pre .0 .1, end-at (c .before .before .before .before) (z .args .p + z .args .q - 1 - l .x) (omega arith))
 
 mul-s : tie.Need-mul-s Inv-loop μ-loop
 mul-s c =
     let z = c .before .before .before .before .before .before .before in
     let l = c .before .before .before .before .before .loop in
-    omega (arith, z .pre .0 .1, end-lt (z .args .s .now) (z .args .n) (z .args .c) (z .args .p) (z .args .q) (z .pre .0 .0) (z .pre .0 .2) (z .pre .0 .4) (z .pre .1 .0) (z .pre .1 .1) (l .s) (l .x) (l .inv .3) (l .x) (omega arith))
+    omega (arith, z .pre .0 .1, end-at (c .before .before .before .before .before) (l .x) (omega arith))
 
 slice-write-s : tie.Need-slice-write-s Inv-loop μ-loop
 slice-write-s c =
     let z = c .before .before .before .before .before .before .before in
     let l = c .before .before .before .before .before .loop in
-    omega (arith, z .pre .0 .0, l .inv .2, end-lt (z .args .s .now) (z .args .n) (z .args .c) (z .args .p) (z .args .q) (z .pre .0 .0) (z .pre .0 .2) (z .pre .0 .4) (z .pre .1 .0) (z .pre .1 .1) (l .s) (l .x) (l .inv .3) (l .x) (omega arith))
+    omega (arith, z .pre .0 .0, l .inv .2, end-at (c .before .before .before .before .before) (l .x) (omega arith))
 
 add-x : tie.Need-add-x Inv-loop μ-loop
 add-x c = search needs
