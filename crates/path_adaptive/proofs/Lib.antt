@@ -1,4 +1,5 @@
 pub mod Walks
+pub mod Inks
 pub mod Tallies
 pub mod Meets
 pub mod Calls

@@ -1,62 +1,54 @@
--- Laws of tallies as plain numbers. Assumes nothing.
+-- Laws of what the measuring walk hands on. Assumes nothing.
 use mathlib.Core.Path.{_≡_, refl, sym, ap, _∙_}
-use mathlib.Core.Bool.{true, false}
-use Prim.Native.Nat.{ℕ, zero, suc, _+_, _-_, _≤_, _<_}
+use mathlib.Core.Bool.{Bool, true, false, cond}
+use Prim.Native.Nat.{ℕ, _-_, _≤_, _<_}
 use native.Mathlib.Omega.{arith}
-use borrow.Author.Tests.{le-leb}
+use lib.Dec.{eqb}
+use borrow.Author.Tests.{le-leb, lt-leb}
+use Rattle.refusal.specs.Limits.{mostPoints}
+use Rattle.refusal.specs.declared.Refusal.the-variants.{Room, Deep}
 use Rattle.vector.specs.declared.Vector.{Vector}
 use Rattle.path_adaptive.specs.declared.Tally.{Tally}
-use Rattle.path_adaptive.specs.declared.Tally.the-variants.{Left}
-use Rattle.path_adaptive.specs.Walk.{Walk, none, one, stuck, join, halved}
+use Rattle.path_adaptive.specs.declared.Tally.the-variants.{Left, Met}
+use Rattle.path_adaptive.specs.Walk.{Walk, one, stuck, join, halved}
 use Rattle.path_adaptive.specs.Tally.{spent, pointed, stoppedOf}
-use Rattle.path_adaptive.specs.Plain.{tallyOf, Meets}
-use Rattle.path_adaptive.proofs.Tallies.{spent-stop, spent-stuck, spent-none, spent-one, spent-halved, spent-join}
+use Rattle.path_adaptive.specs.Measure.{noRoom, tooDeep, tallyOf, Takes, Meets}
+use Rattle.path_adaptive.proofs.Tallies.{spent-stop, spent-stuck, spent-one, spent-halved, spent-join}
 
--- ---- a tally by its number
+-- ---- a tally by its word
 
-stops : (n s : ℕ) → n < 2 → stoppedOf (tallyOf n s) ≡ true
+stops : (n s : ℕ) → mostPoints < n → stoppedOf (tallyOf n s) ≡ true
 unfolding tallyOf
-stops zero s h = refl
-stops (suc zero) s h = refl
-stops (suc (suc n)) s h = absurd (omega arith)
+stops n s h = rw (lt-leb n mostPoints h) (go (eqb n noRoom))
+  where
+    go : (x : Bool) → stoppedOf (cond x (Met Room) (Met Deep)) ≡ true
+    go true = refl
+    go false = refl
 
-runs : (n s : ℕ) → 2 ≤ n → stoppedOf (tallyOf n s) ≡ false
+pub points-left : (n s : ℕ) → n ≤ mostPoints → tallyOf n s ≡ Left n s
 unfolding tallyOf
-runs zero s h = absurd (omega arith)
-runs (suc zero) s h = absurd (omega arith)
-runs (suc (suc n)) s h = refl
+points-left n s h = rw (le-leb n mostPoints h)
 
-one-less : (n s : ℕ) → 2 ≤ n → tallyOf (n - 1) s ≡ pointed (tallyOf n s)
+-- a point takes the room of one, or lacks it
+pub takes-one : (n : ℕ) → n ≤ mostPoints → (n ≡ 0 → ⊥) → Takes n (n - 1)
+unfolding pointed
+takes-one n h z s = rw (points-left n s h, points-left (n - 1) s (omega arith), le-leb 1 n (omega arith))
+
+pub takes-none : (n : ℕ) → n ≡ 0 → Takes n noRoom
 unfolding tallyOf pointed
-one-less zero s h = absurd (omega arith)
-one-less (suc zero) s h = absurd (omega arith)
-one-less (suc (suc zero)) s h = refl
-one-less (suc (suc (suc n))) s h =
-    let e : suc (suc (suc n)) - 1 ≡ suc (suc n) = omega arith in
-    let f : suc n - 1 ≡ n = omega arith in
-    rw (e, f, le-leb 1 (suc n) (omega arith))
-
-pub left-number : (p s : ℕ) → tallyOf (p + 2) s ≡ Left p s
-unfolding tallyOf
-left-number p s = let e : p + 2 ≡ suc (suc p) = omega arith in rw e
-
-pub number-left : (n s : ℕ) → 2 ≤ n → Left (n - 2) s ≡ tallyOf n s
-unfolding tallyOf
-number-left zero s h = absurd (omega arith)
-number-left (suc zero) s h = absurd (omega arith)
-number-left (suc (suc n)) s h = let e : suc (suc n) - 2 ≡ n = omega arith in rw e
+takes-none n z s = rw z
 
 -- ---- what a walk meets
 
-pub meets-stop : (n : ℕ) (w : Walk) → n < 2 → Meets n w n
+pub meets-stop : (n : ℕ) (w : Walk) → mostPoints < n → Meets n w n
 meets-stop n w h s = spent-stop (tallyOf n s) w (stops n s h)
 
-pub meets-one : (n : ℕ) (v : Vector) (w : Walk) → 2 ≤ n → w ≡ one v → Meets n w (n - 1)
-meets-one n v w h e s = one-less n s h ∙ spent-one (tallyOf n s) v w e
+pub meets-one : (n r : ℕ) (v : Vector) (w : Walk) → Takes n r → w ≡ one v → Meets n w r
+meets-one n r v w h e s = h s ∙ spent-one (tallyOf n s) v w e
 
-pub meets-stuck : (n : ℕ) (w : Walk) → 2 ≤ n → w ≡ stuck → Meets n w 0
+pub meets-stuck : (n : ℕ) (w : Walk) → n ≤ mostPoints → w ≡ stuck → Meets n w tooDeep
 unfolding tallyOf
-meets-stuck n w h e s = spent-stuck (tallyOf n s) w e (runs n s h)
+meets-stuck n w h e s = spent-stuck (tallyOf n s) w e (ap stoppedOf (points-left n s h))
 
 pub meets-join : (n k j : ℕ) (l r w : Walk) → w ≡ join l r → Meets n l k → Meets k r j → Meets n w j
 meets-join n k j l r w e f g s = g s ∙ ap (λ (t : Tally). spent t r) (f s) ∙ spent-join (tallyOf n s) l r w e

@@ -1,5 +1,6 @@
 pub mod Walk
 pub mod Tally
-pub mod Plain
+pub mod Measure
+pub mod Write
 pub mod Call
 pub mod Cases

@@ -26,20 +26,29 @@ abbrev pub down : ℕ → ℕ
 down zero = 0
 down (suc n) = n
 
--- Links. A list has a number for each end: 0 for a free one, f + 1 for one that is linked with f. `join e f` says that e and f may be linked.
--- the highest free end below k that may be linked with e, plus 1, or 0 where there is none
+-- Links. A list has a link for each end, as a number: no end, or the end f. `join e f` says that e and f may be linked.
+abbrev pub free : ℕ
+free = 0
+
+abbrev pub to : ℕ → ℕ
+to f = suc f
+
+abbrev pub isFree : ℕ → Bool
+isFree l = isZero l
+
+-- the highest free end below k that may be linked with e, if there is one
 unfoldable pub pick : (ℕ → ℕ → Bool) → List ℕ → ℕ → ℕ → ℕ
-pick join ls e zero = 0
-pick join ls e (suc k) = let r = pick join ls e k in cond (isZero (getD ls k 0) && join e k) (suc k) r
+pick join ls e zero = free
+pick join ls e (suc k) = let r = pick join ls e k in cond (isFree (getD ls k free) && join e k) (to k) r
 
 -- e and what was picked for it, linked with each other
 unfoldable pub tie : List ℕ → ℕ → ℕ → List ℕ
 tie ls e zero = ls
-tie ls e (suc f) = set (set ls e (suc f)) f (suc e)
+tie ls e (suc f) = set (set ls e (to f)) f (to e)
 
 -- end e, of m, linked if it is free
 unfoldable pub linkEnd : (ℕ → ℕ → Bool) → ℕ → List ℕ → ℕ → List ℕ
-linkEnd join m ls e = let r = tie ls e (pick join ls e m) in cond (isZero (getD ls e 0)) r ls
+linkEnd join m ls e = let r = tie ls e (pick join ls e m) in cond (isFree (getD ls e free)) r ls
 
 -- the ends e, e + 1, .. (k of them), one after the other
 unfoldable pub linkFrom : (ℕ → ℕ → Bool) → ℕ → ℕ → ℕ → List ℕ → List ℕ
@@ -48,13 +57,13 @@ linkFrom join m (suc k) e ls = linkFrom join m k (suc e) (linkEnd join m ls e)
 
 -- going up through all m ends, none linked at first
 unfoldable pub links : (ℕ → ℕ → Bool) → ℕ → List ℕ
-links join m = linkFrom join m m 0 (replicate m 0)
+links join m = linkFrom join m m 0 (replicate m free)
 
 -- The walk, over the links as a function and a list `todo` with a number for each stroke, 0 for one that is drawn or empty.
--- where the walk goes on to, plus 1, or 0: the end linked with the exit, unless its stroke is drawn
+-- where the walk goes on to: the end linked with the exit, unless its stroke is drawn
 unfoldable pub onward : List ℕ → ℕ → ℕ
-onward todo zero = 0
-onward todo (suc f) = cond (isZero (getD todo (strokeOf f) 0)) 0 (suc f)
+onward todo zero = free
+onward todo (suc f) = cond (isZero (getD todo (strokeOf f) 0)) free (to f)
 
 -- the ends at which the strokes of one chain are entered, and what is then left to do
 abbrev pub Drawn : Type 0
@@ -78,25 +87,25 @@ run link (suc k) todo e =
 abbrev pub Walked : Type 0
 Walked = record { chains : List (List ℕ); left : List ℕ }
 
--- a chain from the end x - 1, or none if x is 0
+-- a chain from an end, or none
 unfoldable pub from : (ℕ → ℕ) → ℕ → List ℕ → ℕ → Walked
 from link n todo zero = record { chains = []; left = todo }
 from link n todo (suc e) = let r = run link n todo e in record { chains = r .chain ∷ []; left = r .left }
 
--- the strokes s, s + 1, .. (k of them): each that is still to do, and that `enter` gives an end to enter at (plus 1), starts a chain
+-- the strokes s, s + 1, .. (k of them): each that is still to do, and that `enter` gives an end to enter at, starts a chain
 unfoldable pub pass : (ℕ → ℕ) → (ℕ → ℕ) → ℕ → ℕ → ℕ → List ℕ → Walked
 pass enter link n zero s todo = record { chains = []; left = todo }
 pass enter link n (suc k) s todo =
-    let r = from link n todo (cond (isZero (getD todo s 0)) 0 (enter s)) in
+    let r = from link n todo (cond (isZero (getD todo s 0)) free (enter s)) in
     let q = pass enter link n k (suc s) (r .left) in
     record { chains = r .chains ++ q .chains; left = q .left }
 
 -- first the strokes with a free end, entered at the first if that is free; then rings, entered at the last
 unfoldable pub atFree : (ℕ → ℕ) → ℕ → ℕ
-atFree link s = cond (isZero (link (2 * s))) (suc (2 * s)) (cond (isZero (link (2 * s + 1))) (suc (2 * s + 1)) 0)
+atFree link s = cond (isFree (link (2 * s))) (to (2 * s)) (cond (isFree (link (2 * s + 1))) (to (2 * s + 1)) free)
 
 unfoldable pub atLast : ℕ → ℕ
-atLast s = suc (2 * s + 1)
+atLast s = to (2 * s + 1)
 
 -- all chains of n strokes
 unfoldable pub chainsOf : (ℕ → ℕ) → ℕ → List ℕ → List (List ℕ)

@@ -10,8 +10,6 @@ use native.Mathlib.Decide.{ℕ-discrete}
 use lib.ListN.{getD, set}
 use Rattle.path_ends.specs.Splice.{isZero, opposite, pick, onward, after, run}
 use Rattle.path_ends.proofs.Ends.{is-zero, not-zero, nonzero-of}
-use lib.Dec.{eqb}
-use Rattle.order.proofs.Tests.{eqb-self, eqb-false}
 use Rattle.path_link.proofs.Picking.{hit, miss}
 use Rattle.path_ends.specs.Totals.{total}
 use Rattle.path_ends.proofs.Totals.{take-off}
@@ -73,8 +71,3 @@ onward-todo t (suc g) f h = go (isZero (getD t (g / 2) 0)) refl h
     go : (b : Bool) → isZero (getD t (g / 2) 0) ≡ b → cond b 0 (suc g) ≡ suc f → (suc g ≡ suc f) × (getD t (f / 2) 0 ≢ 0)
     go true q h = absurd (omega arith)
     go false q h = let p : g ≡ f = omega arith in (h, rw (← p) (nonzero-of (getD t (g / 2) 0) q))
-
--- a test for 0 in code, and in a definition
-pub zero-test : (x : ℕ) → eqb x 0 ≡ isZero x
-zero-test zero = eqb-self 0
-zero-test (suc x) = eqb-false (suc x) 0 (λ e. omega arith)

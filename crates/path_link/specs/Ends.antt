@@ -3,23 +3,23 @@
 use mathlib.Core.Path.{_≡_}
 use mathlib.Core.List.{List, [], _∷_, _++_}
 use mathlib.Core.Bool.{Bool, _&&_, not, cond}
-use Prim.Native.Nat.{ℕ, zero, suc, _/_, _≤_}
+use Prim.Native.Nat.{ℕ, zero, suc, _≤_}
 use lib.ListN.{getD, length, drop}
 use lib.Dec.{eqb}
-use Rattle.path_ends.specs.Splice.{isZero}
+use Rattle.path_ends.specs.Splice.{strokeOf, isZero}
 
 -- e and f are ends of two strokes, and of one value
 unfoldable pub fit : List ℕ → ℕ → ℕ → Bool
-fit vs e f = not (eqb (e / 2) (f / 2)) && eqb (getD vs e 0) (getD vs f 0)
+fit vs e f = not (eqb (strokeOf e) (strokeOf f)) && eqb (getD vs e 0) (getD vs f 0)
 
 -- and both strokes are there
 unfoldable pub fitLive : List ℕ → List ℕ → ℕ → ℕ → Bool
-fitLive todo vs e f = not (isZero (getD todo (e / 2) 0)) && not (isZero (getD todo (f / 2) 0)) && fit vs e f
+fitLive todo vs e f = not (isZero (getD todo (strokeOf e) 0)) && not (isZero (getD todo (strokeOf f) 0)) && fit vs e f
 
 -- the ends e, e + 1, .. (k of them) of the strokes that are there
 unfoldable pub liveFrom : List ℕ → ℕ → ℕ → List ℕ
 liveFrom todo e zero = []
-liveFrom todo e (suc k) = let r = liveFrom todo (suc e) k in cond (isZero (getD todo (e / 2) 0)) r (e ∷ r)
+liveFrom todo e (suc k) = let r = liveFrom todo (suc e) k in cond (isZero (getD todo (strokeOf e) 0)) r (e ∷ r)
 
 -- r ends are written, and nothing after them
 pub record Lived (todo a a′ : List ℕ) (r : ℕ) : Type 0 where

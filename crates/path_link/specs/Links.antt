@@ -1,9 +1,10 @@
--- A link as a word of scratch: 0 for a free end, f + 1 for one that is linked with the end f.
+-- A link as a word of scratch.
 -- Assumes nothing.
-use Prim.Native.Nat.{ℕ, suc}
+use Prim.Native.Nat.{ℕ}
+use Rattle.path_ends.specs.Splice.{free, to}
 use Rattle.path_link.specs.declared.Link.{Link}
 use Rattle.path_link.specs.declared.Link.the-variants.{To, Free}
 
 abbrev pub wordOf : Link → ℕ
-wordOf (To f) = suc (f .0)
-wordOf Free = 0
+wordOf (To f) = to (f .0)
+wordOf Free = free

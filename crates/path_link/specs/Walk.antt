@@ -8,13 +8,13 @@ use lib.ListN.{length, getD, take, replicate}
 use lib.Dec.{leb}
 use Rattle.refusal.specs.Limits.{mostStrokes}
 use Rattle.order.specs.Regions.{region, put}
-use Rattle.path_ends.specs.Splice.{isZero, run, from, Walked, atFree, atLast, chainsOf, links}
-use Rattle.path_link.specs.Ends.{fitLive}
+use Rattle.path_ends.specs.Splice.{free, isZero, run, from, Walked, atFree, atLast, chainsOf}
+use Rattle.path_link.specs.Layout.{orderAt, wordsOf, valuesIn, linksIn, todoIn, linksOf}
 use Rattle.path_ends.specs.Totals.{total}
 
 -- the link of end e
 abbrev pub linkIn : List ℕ → ℕ → ℕ
-linkIn ls e = getD ls e 0
+linkIn ls e = getD ls e free
 
 -- no link leads out of the list
 abbrev pub Within : List ℕ → Type 0
@@ -48,25 +48,25 @@ entry link rings i = cond rings (atLast i) (atFree link i)
 
 -- the chain that begins at stroke i, if there is one
 unfoldable pub begun : List ℕ → ℕ → List ℕ → Bool → ℕ → Walked
-begun ls n todo rings i = from (linkIn ls) n todo (cond (isZero (getD todo i 0)) 0 (entry (linkIn ls) rings i))
+begun ls n todo rings i = from (linkIn ls) n todo (cond (isZero (getD todo i 0)) free (entry (linkIn ls) rings i))
 
 -- a list in which a walk can go
 pub record Ready (s : List ℕ) (n at : ℕ) : Type 0 where
-  pub size : 7 * n ≤ length s
+  pub size : wordsOf n ≤ length s
   pub few : n ≤ mostStrokes
-  pub within : Within (region s (4 * n) (2 * n))
-  pub room : total (λ s. 1) 0 (region s (6 * n) n) + at ≤ n
+  pub within : Within (linksIn s n)
+  pub room : total (λ s. 1) 0 (todoIn s n) + at ≤ n
 
 -- the order in which the chains of n strokes enter them, of the values of their ends and of what is to do
 unfoldable pub orderIn : List ℕ → ℕ → List ℕ
-orderIn s n = inkAll (chainsOf (linkIn (links (fitLive (region s (6 * n) n) (region s 0 (2 * n))) (2 * n))) n (region s (6 * n) n))
+orderIn s n = inkAll (chainsOf (linkIn (linksOf s n)) n (todoIn s n))
 
--- r words of the order lie from 2 n, and all below 2 n and from 7 n on is as it was
+-- r words of the order lie in its place, and the values and all after what is to do are as they were
 pub record Woven (s s′ : List ℕ) (n r : ℕ) : Type 0 where
   pub few : r ≤ n
-  pub order : region s′ (2 * n) r ≡ orderIn s n
-  pub values : region s′ 0 (2 * n) ≡ region s 0 (2 * n)
-  pub rest : (b m : ℕ) → 7 * n ≤ b → b + m ≤ length s → region s′ b m ≡ region s b m
+  pub order : region s′ (orderAt n) r ≡ orderIn s n
+  pub values : valuesIn s′ n ≡ valuesIn s n
+  pub rest : (b m : ℕ) → wordsOf n ≤ b → b + m ≤ length s → region s′ b m ≡ region s b m
 
 -- how many words of the order there are, and what is left in scratch
 pub record Threaded : Type 0 where
@@ -76,8 +76,9 @@ pub record Threaded : Type 0 where
 abbrev pub threaded : ℕ → List ℕ → Threaded
 threaded r s = record { count = r; words = s }
 
--- the order from 2 n on, zero after it up to 7 n, and all else as it was; nothing is changed where there are too many strokes, or too few words
+-- the order in its place, zero after it up to the end of what is to do, and all else as it was; nothing is changed where there are
+-- too many strokes, or too few words
 unfoldable pub threadIn : List ℕ → ℕ → Threaded
 threadIn s n =
     let o = orderIn s n in
-    cond (leb n mostStrokes && leb (7 * n) (length s)) (threaded (length o) (put s (2 * n) (o ++ replicate (5 * n - length o) 0))) (threaded 0 s)
+    cond (leb n mostStrokes && leb (wordsOf n) (length s)) (threaded (length o) (put s (orderAt n) (o ++ replicate (5 * n - length o) 0))) (threaded 0 s)

@@ -1,5 +1,5 @@
 // Links between the ends of strokes, and the walk along them, in words of scratch.
-// With n strokes, the values of their ends lie from word 0, the order from 2 n, the links from 4 n, and what is to do from 6 n up to 7 n.
+// With n strokes there are the values of their ends, then the order, the links, and what is to do.
 use order::clear;
 use order::sort_words;
 use order::word_at;
@@ -11,16 +11,25 @@ ghost use mathlib.Core.Logic.{_≢_};
 ghost use Prim.Native.Nat.{ℕ, _+_, _-_, _*_, _/_, _<_, _≤_};
 ghost use lib.ListN.{length, getD};
 ghost use Rattle.order.specs.Regions.{region, Into, Into2};
-ghost use Rattle.path_ends.specs.Splice.{isZero, opposite as oppositeOf, onward as onwardOf, pass as passOf};
+ghost use Rattle.path_ends.specs.Splice.{isFree, opposite as oppositeOf, onward as onwardOf, pass as passOf};
 ghost use Rattle.path_link.specs.Links.{wordOf};
 ghost use Rattle.path_link.specs.Ends.{Lived};
-ghost use Rattle.path_link.specs.Layout.{LinksIn};
+ghost use Rattle.path_link.specs.Layout.{orderAt, linksAt, todoAt, wordsOf, valuesIn, linksIn, todoIn, LinksIn};
 ghost use Rattle.path_link.specs.Runs.{Reach, Pair, Mirrored, Ranked, Linked};
 ghost use Rattle.path_link.specs.Walk.{linkIn, Within, RunIs, Drew, entry, begun, Ready, Woven, threaded, threadIn};
 ghost use Rattle.refusal.specs.Limits.{mostStrokes};
 
+// Where the order, the links and what is to do begin, and where that ends, in words a stroke; the values lie from 0.
+const ORDER: usize = 2;
+
+const LINKS: usize = 4;
+
+const TODO: usize = 6;
+
+const WORDS: usize = 7;
+
 // What an end is linked with: another end, or none.
-pub enum Link {
+enum Link {
     To(Endpoint),
     Free,
 }
@@ -52,17 +61,18 @@ fn word_of(l: Link) -> u32
 
 // Writes the ends of the strokes that are there to the order, and answers how many there are.
 fn live_ends(s: &mut [u32], n: usize) -> usize
-    requires { ⌜ (7 * n ≤ length (now s)) × (n ≤ mostStrokes) ⌝ }
-    ensures { λ r. ⌜ Into (now (s .entry)) (now (s .exit)) (2 * n) (2 * n) (λ a. Lived (region (now (s .entry)) (6 * n) n) (region (now (s .entry)) (2 * n) (2 * n)) a r) ⌝ }
+    requires { ⌜ (wordsOf n ≤ length (now s)) × (n ≤ mostStrokes) ⌝ }
+    ensures { λ r. ⌜ Into (now (s .entry)) (now (s .exit)) (orderAt n) (2 * n) (λ a. Lived (todoIn (now (s .entry)) n) (region (now (s .entry)) (orderAt n) (2 * n)) a r) ⌝ }
 {
     let mut e: usize = 0;
     let mut k: usize = 0;
     while e < 2 * n {
-        if s[6 * n + e / 2] == 0 {
+        let i = Endpoint(e).path_id();
+        if s[TODO * n + i] == 0 {
             e += 1;
             continue;
         }
-        s[2 * n + k] = e as u32;
+        s[ORDER * n + k] = e as u32;
         k += 1;
         e += 1;
     }
@@ -88,10 +98,10 @@ fn run_end(values: &[u32], s: &[u32], p: usize) -> usize
 
 // Where the run of place p in the order ends.
 fn reach(s: &[u32], n: usize, c: usize, p: usize) -> usize
-    requires { ⌜ (7 * n ≤ length (now s)) × (c ≤ 2 * n) × (p < c) × (n ≤ mostStrokes) ⌝ }
-    ensures { λ r. ⌜ Reach (region (now (s .entry)) 0 (2 * n)) (region (now (s .entry)) (2 * n) c) p r ⌝ }
+    requires { ⌜ (wordsOf n ≤ length (now s)) × (c ≤ 2 * n) × (p < c) × (n ≤ mostStrokes) ⌝ }
+    ensures { λ r. ⌜ Reach (valuesIn (now (s .entry)) n) (region (now (s .entry)) (orderAt n) c) p r ⌝ }
 {
-    let m = 2 * n;
+    let m = ORDER * n;
     let h = m + c;
     run_end(&s[..m], &s[m..h], p)
 }
@@ -109,17 +119,17 @@ fn mirror_link(e: Endpoint, f: Endpoint) -> Link
 
 // Links the ends of the run from p to q.
 fn mirror_run(s: &mut [u32], n: usize, c: usize, p: usize, q: usize)
-    requires { ⌜ (7 * n ≤ length (now s)) × (n ≤ mostStrokes) × (c ≤ 2 * n) × (p < q) × (q ≤ c) ⌝ }
-    requires { ⌜ ((x : ℕ) → x < c → getD (region (now s) (2 * n) c) x 0 < 2 * n) ⌝ }
-    requires { ⌜ ((x y : ℕ) → p ≤ x → x < y → y < q → getD (region (now s) (2 * n) c) x 0 ≢ getD (region (now s) (2 * n) c) y 0) ⌝ }
-    ensures { λ _. ⌜ Into (now (s .entry)) (now (s .exit)) (4 * n) (2 * n) (λ ls. Mirrored (region (now (s .entry)) (2 * n) c) (region (now (s .entry)) (4 * n) (2 * n)) ls p q q) ⌝ }
+    requires { ⌜ (wordsOf n ≤ length (now s)) × (n ≤ mostStrokes) × (c ≤ 2 * n) × (p < q) × (q ≤ c) ⌝ }
+    requires { ⌜ ((x : ℕ) → x < c → getD (region (now s) (orderAt n) c) x 0 < 2 * n) ⌝ }
+    requires { ⌜ ((x y : ℕ) → p ≤ x → x < y → y < q → getD (region (now s) (orderAt n) c) x 0 ≢ getD (region (now s) (orderAt n) c) y 0) ⌝ }
+    ensures { λ _. ⌜ Into (now (s .entry)) (now (s .exit)) (linksAt n) (2 * n) (λ ls. Mirrored (region (now (s .entry)) (orderAt n) c) (linksIn (now (s .entry)) n) ls p q q) ⌝ }
 {
     let mut x = p;
     while x < q {
-        let e = s[2 * n + x];
-        let f = s[2 * n + (p + q - 1 - x)];
+        let e = s[ORDER * n + x];
+        let f = s[ORDER * n + (p + q - 1 - x)];
         let l = mirror_link(Endpoint(e as usize), Endpoint(f as usize));
-        let i = 4 * n + e as usize;
+        let i = LINKS * n + e as usize;
         s[i] = word_of(l);
         x += 1;
     }
@@ -127,9 +137,9 @@ fn mirror_run(s: &mut [u32], n: usize, c: usize, p: usize, q: usize)
 
 // Links the ends of every run.
 fn link_runs(s: &mut [u32], n: usize, c: usize)
-    requires { ⌜ (7 * n ≤ length (now s)) × (n ≤ mostStrokes) × (c ≤ 2 * n) ⌝ }
-    requires { ⌜ Ranked (region (now s) 0 (2 * n)) (region (now s) (2 * n) c) (2 * n) ⌝ }
-    ensures { λ _. ⌜ Into (now (s .entry)) (now (s .exit)) (4 * n) (2 * n) (λ ls. Linked (region (now (s .entry)) 0 (2 * n)) (region (now (s .entry)) (2 * n) c) (region (now (s .entry)) (4 * n) (2 * n)) ls c) ⌝ }
+    requires { ⌜ (wordsOf n ≤ length (now s)) × (n ≤ mostStrokes) × (c ≤ 2 * n) ⌝ }
+    requires { ⌜ Ranked (valuesIn (now s) n) (region (now s) (orderAt n) c) (2 * n) ⌝ }
+    ensures { λ _. ⌜ Into (now (s .entry)) (now (s .exit)) (linksAt n) (2 * n) (λ ls. Linked (valuesIn (now (s .entry)) n) (region (now (s .entry)) (orderAt n) c) (linksIn (now (s .entry)) n) ls c) ⌝ }
 {
     let mut p: usize = 0;
     while p < c {
@@ -141,13 +151,13 @@ fn link_runs(s: &mut [u32], n: usize, c: usize)
 
 // Links all ends that can be linked.
 fn link_ends(s: &mut [u32], n: usize)
-    requires { ⌜ (7 * n ≤ length (now s)) × (n ≤ mostStrokes) ⌝ }
+    requires { ⌜ (wordsOf n ≤ length (now s)) × (n ≤ mostStrokes) ⌝ }
     ensures { λ _. ⌜ LinksIn (now (s .entry)) (now (s .exit)) n ⌝ }
 {
     let c = live_ends(s, n);
-    let m = 2 * n;
-    let l = 4 * n;
-    let h = 6 * n;
+    let m = ORDER * n;
+    let l = LINKS * n;
+    let h = TODO * n;
     sort_words(s, 0, m, m, l, c);
     clear(&mut s[l..h]);
     link_runs(s, n, c);
@@ -159,7 +169,7 @@ fn onward(links: &[u32], todo: &[u32], e: Endpoint) -> Link
     requires { do ⌜ (← ⟦links.len()⟧) ≤ 2 * mostStrokes ⌝ }
     requires { do ⌜ e .0 < (← ⟦links.len()⟧) ⌝ }
     requires { ⌜ Within (now links) ⌝ }
-    ensures { λ r. ⌜ wordOf r ≡ onwardOf (now (todo .entry)) (getD (now (links .entry)) (oppositeOf (e .0)) 0) ⌝ }
+    ensures { λ r. ⌜ wordOf r ≡ onwardOf (now (todo .entry)) (linkIn (now (links .entry)) (oppositeOf (e .0))) ⌝ }
 {
     let o = e.opposite();
     let at = o.0;
@@ -179,30 +189,30 @@ fn onward(links: &[u32], todo: &[u32], e: Endpoint) -> Link
 
 // The same, in the strokes' words.
 fn go_on(s: &[u32], n: usize, e: Endpoint) -> Link
-    requires { ⌜ (7 * n ≤ length (now s)) × (n ≤ mostStrokes) × (e .0 < 2 * n) ⌝ }
-    requires { ⌜ Within (region (now s) (4 * n) (2 * n)) ⌝ }
-    ensures { λ r. ⌜ wordOf r ≡ onwardOf (region (now (s .entry)) (6 * n) n) (getD (region (now (s .entry)) (4 * n) (2 * n)) (oppositeOf (e .0)) 0) ⌝ }
+    requires { ⌜ (wordsOf n ≤ length (now s)) × (n ≤ mostStrokes) × (e .0 < 2 * n) ⌝ }
+    requires { ⌜ Within (linksIn (now s) n) ⌝ }
+    ensures { λ r. ⌜ wordOf r ≡ onwardOf (todoIn (now (s .entry)) n) (linkIn (linksIn (now (s .entry)) n) (oppositeOf (e .0))) ⌝ }
 {
-    let l = 4 * n;
-    let t = 6 * n;
-    let h = 7 * n;
+    let l = LINKS * n;
+    let t = TODO * n;
+    let h = WORDS * n;
     onward(&s[l..t], &s[t..h], e)
 }
 
 // Walks one chain from the end start, and writes the ends at which it enters, the first one marked.
 fn run(s: &mut [u32], n: usize, at: usize, start: Endpoint) -> usize
     requires { ⌜ Ready (now s) n at ⌝ }
-    requires { ⌜ (start .0 < 2 * n) × (getD (region (now s) (6 * n) n) (start .0 / 2) 0 ≢ 0) ⌝ }
-    ensures { λ r. ⌜ Into2 (now (s .entry)) (now (s .exit)) (6 * n) n (2 * n) n
-        (λ t o. RunIs (region (now (s .entry)) (4 * n) (2 * n)) (region (now (s .entry)) (6 * n) n) (region (now (s .entry)) (2 * n) n) at (start .0) t o r) ⌝ }
+    requires { ⌜ (start .0 < 2 * n) × (getD (todoIn (now s) n) (start .0 / 2) 0 ≢ 0) ⌝ }
+    ensures { λ r. ⌜ Into2 (now (s .entry)) (now (s .exit)) (todoAt n) n (orderAt n) n
+        (λ t o. RunIs (linksIn (now (s .entry)) n) (todoIn (now (s .entry)) n) (region (now (s .entry)) (orderAt n) n) at (start .0) t o r) ⌝ }
 {
     let mut e = start;
     let mut k = at;
     let mut f: usize = 1;
     loop {
         let i = e.path_id();
-        s[6 * n + i] = 0;
-        s[2 * n + k] = (e.0 + e.0 + f) as u32;
+        s[TODO * n + i] = 0;
+        s[ORDER * n + k] = (e.0 + e.0 + f) as u32;
         k += 1;
         f = 0;
         match go_on(s, n, e) {
@@ -218,17 +228,20 @@ fn run(s: &mut [u32], n: usize, at: usize, start: Endpoint) -> usize
 
 // Whether end e is linked.
 fn is_connected(s: &[u32], n: usize, e: Endpoint) -> bool
-    requires { ⌜ (7 * n ≤ length (now s)) × (n ≤ mostStrokes) × (e .0 < 2 * n) ⌝ }
-    ensures { λ r. ⌜ r ≡ not (isZero (linkIn (region (now (s .entry)) (4 * n) (2 * n)) (e .0))) ⌝ }
+    requires { ⌜ (wordsOf n ≤ length (now s)) × (n ≤ mostStrokes) × (e .0 < 2 * n) ⌝ }
+    ensures { λ r. ⌜ r ≡ not (isFree (linkIn (linksIn (now (s .entry)) n) (e .0))) ⌝ }
 {
     let at = e.0;
-    s[4 * n + at] != 0
+    match link_in(s[LINKS * n + at]) {
+        Link::To(_) => true,
+        Link::Free => false,
+    }
 }
 
 // Where stroke i is entered: a free end, the first before the last, or none; or, of rings, the last.
 fn enter(s: &[u32], n: usize, i: usize, rings: bool) -> Link
-    requires { ⌜ (7 * n ≤ length (now s)) × (n ≤ mostStrokes) × (i < n) ⌝ }
-    ensures { λ r. ⌜ wordOf r ≡ entry (linkIn (region (now (s .entry)) (4 * n) (2 * n))) rings i ⌝ }
+    requires { ⌜ (wordsOf n ≤ length (now s)) × (n ≤ mostStrokes) × (i < n) ⌝ }
+    ensures { λ r. ⌜ wordOf r ≡ entry (linkIn (linksIn (now (s .entry)) n)) rings i ⌝ }
 {
     let last = Endpoint::new(i as u32, true);
     if rings {
@@ -248,10 +261,10 @@ fn enter(s: &[u32], n: usize, i: usize, rings: bool) -> Link
 fn visit(s: &mut [u32], n: usize, at: usize, i: usize, rings: bool) -> usize
     requires { ⌜ Ready (now s) n at ⌝ }
     requires { ⌜ i < n ⌝ }
-    ensures { λ r. ⌜ Into2 (now (s .entry)) (now (s .exit)) (6 * n) n (2 * n) n
-        (λ t o. Drew (begun (region (now (s .entry)) (4 * n) (2 * n)) n (region (now (s .entry)) (6 * n) n) rings i) (region (now (s .entry)) (2 * n) n) at t o r) ⌝ }
+    ensures { λ r. ⌜ Into2 (now (s .entry)) (now (s .exit)) (todoAt n) n (orderAt n) n
+        (λ t o. Drew (begun (linksIn (now (s .entry)) n) n (todoIn (now (s .entry)) n) rings i) (region (now (s .entry)) (orderAt n) n) at t o r) ⌝ }
 {
-    if s[6 * n + i] == 0 {
+    if s[TODO * n + i] == 0 {
         return at;
     }
     match enter(s, n, i, rings) {
@@ -267,8 +280,8 @@ fn visit(s: &mut [u32], n: usize, at: usize, i: usize, rings: bool) -> usize
 // Walks the chains that begin at strokes in their order.
 fn walk_pass(s: &mut [u32], n: usize, at: usize, rings: bool) -> usize
     requires { ⌜ Ready (now s) n at ⌝ }
-    ensures { λ r. ⌜ Into2 (now (s .entry)) (now (s .exit)) (6 * n) n (2 * n) n
-        (λ t o. Drew (passOf (entry (linkIn (region (now (s .entry)) (4 * n) (2 * n))) rings) (linkIn (region (now (s .entry)) (4 * n) (2 * n))) n n 0 (region (now (s .entry)) (6 * n) n)) (region (now (s .entry)) (2 * n) n) at t o r) ⌝ }
+    ensures { λ r. ⌜ Into2 (now (s .entry)) (now (s .exit)) (todoAt n) n (orderAt n) n
+        (λ t o. Drew (passOf (entry (linkIn (linksIn (now (s .entry)) n)) rings) (linkIn (linksIn (now (s .entry)) n)) n n 0 (todoIn (now (s .entry)) n)) (region (now (s .entry)) (orderAt n) n) at t o r) ⌝ }
 {
     let mut i: usize = 0;
     let mut k = at;
@@ -281,7 +294,7 @@ fn walk_pass(s: &mut [u32], n: usize, at: usize, rings: bool) -> usize
 
 // Links the n strokes, and walks all chains: first those with a free end, then the rings.
 fn link_and_walk(s: &mut [u32], n: usize) -> usize
-    requires { ⌜ (7 * n ≤ length (now s)) × (n ≤ mostStrokes) ⌝ }
+    requires { ⌜ (wordsOf n ≤ length (now s)) × (n ≤ mostStrokes) ⌝ }
     ensures { λ r. ⌜ Woven (now (s .entry)) (now (s .exit)) n r ⌝ }
 {
     link_ends(s, n);
@@ -289,8 +302,8 @@ fn link_and_walk(s: &mut [u32], n: usize) -> usize
     walk_pass(s, n, k, true)
 }
 
-// Threads n strokes whose ends' values and what is to do lie in s: leaves the order in which their chains enter them from word 2 n on,
-// an end times two for each, plus 1 for a chain's first, and answers how many. The words after it up to 7 n are zero.
+// Threads n strokes whose ends' values and what is to do lie in s: leaves in its place the order in which their chains enter them,
+// an end times two for each, plus 1 for a chain's first, and answers how many. The words after it up to the last of theirs are zero.
 pub fn thread(s: &mut [u32], n: usize) -> usize
     ensures { λ r. ⌜ threaded r (now (s .exit)) ≡ threadIn (now (s .entry)) n ⌝ }
     ensures { λ r. ⌜ r ≤ n ⌝ }
@@ -298,12 +311,12 @@ pub fn thread(s: &mut [u32], n: usize) -> usize
     if MOST_STROKES < n {
         return 0;
     }
-    if s.len() < 7 * n {
+    if s.len() < WORDS * n {
         return 0;
     }
     let c = link_and_walk(s, n);
-    let a = 2 * n + c;
-    let e = 7 * n;
+    let a = ORDER * n + c;
+    let e = WORDS * n;
     clear(&mut s[a..e]);
     c
 }

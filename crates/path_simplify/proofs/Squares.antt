@@ -4,11 +4,11 @@ use mathlib.Core.Logic.{_⊎_, inl, inr}
 use mathlib.Core.Bool.{Bool, true, false, not, cond, true≢false}
 use Prim.Native.Nat.{ℕ}
 use lib.Dec.{T}
-use lib.Ieee.{Float, binary64, fits, div, eq, lt, ofBits, isNan}
+use lib.Ieee.{Float, binary64, fits, eq, lt, ofBits, isNan}
 use lib.Ieee.Bits.{is-true, is-false}
 use lib.Ieee.Fits.{add-fits}
 use Rattle.vector.specs.declared.Vector.{Vector}
-use Rattle.vector.specs.Vectors.{addOf, subOf, mulScalarOf, dotOf, distanceSquaredOf}
+use Rattle.vector.specs.Vectors.{addOf, subOf, mulScalarOf, distanceSquaredOf}
 use Rattle.vector.specs.Lengths.{zero64, one64, alongOf, segmentDistanceOf}
 use Rattle.vector.specs.Root.{rootOf}
 use Rattle.vector.proofs.Order.{lt-through, lt-one-way}
@@ -17,27 +17,6 @@ use Rattle.vector.proofs.RootGap.{lt-trans, above-zero, roots-climb}
 use Rattle.path_simplify.specs.declared.Records.{Records}
 use Rattle.path_simplify.specs.Simplify.{fartherOf}
 use Rattle.path_simplify.specs.Squares.{segmentSquareOf, farOf, settledOf, Under, Rising}
-
--- ---- the branches of the square
-
-module _ (p v w : Vector) (l : Float) (square : l ≡ distanceSquaredOf v w) where
-  pub no-segment : eq l zero64 ≡ true → distanceSquaredOf p v ≡ segmentSquareOf p v w
-  unfolding segmentSquareOf
-  no-segment t = rw (← square, t)
-
-  module _ (d : Float) (dot : d ≡ dotOf (subOf p v) (subOf w v)) (some : eq l zero64 ≡ false) where
-    pub before-first : lt (div binary64 d l) zero64 ≡ true → distanceSquaredOf p v ≡ segmentSquareOf p v w
-    unfolding segmentSquareOf
-    before-first t = rw (← square, ← dot, some, t)
-
-    module _ (from-first : lt (div binary64 d l) zero64 ≡ false) where
-      pub after-last : lt one64 (div binary64 d l) ≡ true → distanceSquaredOf p w ≡ segmentSquareOf p v w
-      unfolding segmentSquareOf
-      after-last t = rw (← square, ← dot, some, from-first, t)
-
-      pub between : lt one64 (div binary64 d l) ≡ false → distanceSquaredOf (addOf v (mulScalarOf (subOf w v) (div binary64 d l))) p ≡ segmentSquareOf p v w
-      unfolding segmentSquareOf
-      between t = rw (← square, ← dot, some, from-first, t)
 
 -- ---- the distance is its root
 

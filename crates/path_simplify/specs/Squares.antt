@@ -3,10 +3,10 @@ use mathlib.Core.Path.{_≡_}
 use mathlib.Core.Bool.{true, cond}
 use mathlib.Core.Logic.{_⊎_}
 use lib.Dec.{T}
-use lib.Ieee.{Float, binary64, fits, eq, lt}
+use lib.Ieee.{Float, binary64, fits, lt}
 use Rattle.vector.specs.declared.Vector.{Vector}
-use Rattle.vector.specs.Vectors.{addOf, subOf, mulScalarOf, distanceSquaredOf}
-use Rattle.vector.specs.Lengths.{zero64, one64, orNan, alongOf}
+use Rattle.vector.specs.Vectors.{distanceSquaredOf}
+use Rattle.vector.specs.Lengths.{zero64, orNan, fromSegment}
 use Rattle.vector.specs.Root.{rootOf}
 use Rattle.path_simplify.specs.declared.Far.{Far}
 use Rattle.path_simplify.specs.declared.Best.{Best}
@@ -14,11 +14,7 @@ use Rattle.path_simplify.specs.declared.Records.{Records}
 
 -- the square of the distance of p from the segment from v to w
 unfoldable pub segmentSquareOf : Vector → Vector → Vector → Float
-segmentSquareOf p v w =
-    cond (eq (distanceSquaredOf v w) zero64) (distanceSquaredOf p v)
-    (cond (lt (alongOf p v w) zero64) (distanceSquaredOf p v)
-    (cond (lt one64 (alongOf p v w)) (distanceSquaredOf p w)
-    (distanceSquaredOf (addOf v (mulScalarOf (subOf w v) (alongOf p v w))) p)))
+segmentSquareOf p v w = fromSegment distanceSquaredOf p v w
 
 -- the farthest so far, as the definition has it: its distance is the root of its square
 abbrev pub farOf : Best → Far

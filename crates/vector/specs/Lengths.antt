@@ -32,10 +32,14 @@ unitOf v = cond (eq (lengthOf v) zero64) (accepted []) (accepted (divScalarOf v 
 abbrev pub alongOf : Vector → Vector → Vector → Float
 alongOf p v w = div binary64 (dotOf (subOf p v) (subOf w v)) (distanceSquaredOf v w)
 
+-- a measure between p and what is nearest to it of the segment from v to w
+abbrev pub fromSegment : (Vector → Vector → Float) → Vector → Vector → Vector → Float
+fromSegment measure p v w =
+    cond (eq (distanceSquaredOf v w) zero64) (measure p v)
+    (cond (lt (alongOf p v w) zero64) (measure p v)
+    (cond (lt one64 (alongOf p v w)) (measure p w)
+    (measure (addOf v (mulScalarOf (subOf w v) (alongOf p v w))) p)))
+
 -- the distance of p from the segment from v to w
 unfoldable pub segmentDistanceOf : Vector → Vector → Vector → Float
-segmentDistanceOf p v w =
-    cond (eq (distanceSquaredOf v w) zero64) (distanceOf p v)
-    (cond (lt (alongOf p v w) zero64) (distanceOf p v)
-    (cond (lt one64 (alongOf p v w)) (distanceOf p w)
-    (distanceOf (addOf v (mulScalarOf (subOf w v) (alongOf p v w))) p)))
+segmentDistanceOf p v w = fromSegment distanceOf p v w

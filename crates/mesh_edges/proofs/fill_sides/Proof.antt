@@ -1,4 +1,4 @@
--- `fill_sides` meets its contract.
+-- `fill_sides` meets its contract. The words are those with the first k sides written; the sides that are left fall.
 use native.Mathlib.Omega.{arith}
 use mathlib.Core.Path.{_≡_, refl, ap, _∙_}
 use mathlib.Core.List.{List}

@@ -1,4 +1,5 @@
--- `group_end` meets its contract.
+-- `group_end` meets its contract. The end of the group as the places from q on tell it is the end as those after p tell
+-- it; the places that are left fall.
 use native.Mathlib.Omega.{arith}
 use mathlib.Core.Path.{_≡_, sym, _∙_, refl}
 use Prim.Native.Nat.{_+_, _-_, _*_, _<_, _≤_}

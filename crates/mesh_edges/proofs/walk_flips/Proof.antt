@@ -1,4 +1,5 @@
--- `walk_flips` meets its contract.
+-- `walk_flips` meets its contract. Flagging the flips from the i-th on from here leaves the flags that flagging all
+-- leaves; the flips that are left fall.
 use native.Mathlib.Omega.{arith}
 use mathlib.Core.Path.{_≡_, refl, _∙_}
 use Prim.Native.Nat.{_-_, _*_, _≤_}

@@ -1,4 +1,5 @@
--- `write_mates` meets its contract.
+-- `write_mates` meets its contract. Marking the groups from place p on from here leaves what marking all leaves; the
+-- places that are left fall.
 use native.Mathlib.Omega.{arith}
 use mathlib.Core.Path.{_≡_, refl, _∙_}
 use Prim.Native.Nat.{_-_, _*_, _≤_}

@@ -1,4 +1,5 @@
--- `some_turns` meets its contract.
+-- `some_turns` meets its contract. Among the sides from the i-th on one turns where one of all turns; the sides that
+-- are left fall.
 use borrow.Author.Needs.{needs}
 use mathlib.Core.Path.{_≡_, refl, sym, _∙_}
 use Prim.Native.Nat.{_-_, _≤_}

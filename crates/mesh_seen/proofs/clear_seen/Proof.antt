@@ -1,4 +1,5 @@
--- `clear_seen` meets its contract.
+-- `clear_seen` meets its contract. The numbers below i are zero, and those from i on are as they were; the numbers that
+-- are left fall.
 use native.Mathlib.Omega.{arith}
 use borrow.Author.Needs.{needs}
 use mathlib.Core.Path.{_≡_, refl, ap, _∙_}

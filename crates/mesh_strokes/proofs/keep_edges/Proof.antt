@@ -1,4 +1,5 @@
--- `keep_edges` meets its contract.
+-- `keep_edges` meets its contract. The sides' words are as they were, and after them lie the m edges kept of the sides
+-- before place p (`Went`); the sides that are left fall.
 use borrow.Author.Needs.{needs}
 use native.Mathlib.Omega.{arith}
 use mathlib.Core.Path.{_≡_, refl, sym, ap, _∙_}

@@ -1,4 +1,5 @@
--- `all_within` meets its contract: what was within so far and what is left make all.
+-- `all_within` meets its contract. Those before i were all good where none was counted as bad, and with those
+-- from i on they decide what all decide; the numbers that are left fall.
 use borrow.Author.Needs.{needs}
 use mathlib.Core.Bool.{Bool, true, false, _&&_}
 use mathlib.Core.Path.{_≡_, refl, sym, _∙_}

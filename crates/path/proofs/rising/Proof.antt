@@ -1,4 +1,5 @@
--- `rising` meets its contract.
+-- `rising` meets its contract. The starts from the i-th on are good after the last one passed where all are good from
+-- the first; the starts that are left fall.
 use borrow.Author.Needs.{needs}
 use Rattle.path.proofs.Starts.{good-none, good-first, good-start, good-end, good-fall, good-past, good-turn}
 use Rattle.path.specs.Strokes.{goodFrom, goodStarts}

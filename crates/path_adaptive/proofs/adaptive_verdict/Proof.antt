@@ -46,15 +46,12 @@ returns-4 c = simp (sym (c .before .before .before .before .before .before .befo
 view-of-requires : tie.Need-view-of-requires
 view-of-requires c κs = search needs
 
-lens-of-requires : tie.Need-lens-of-requires
-lens-of-requires c κs = search needs
-
 point-room-requires : tie.Need-point-room-requires
 point-room-requires c κs = search needs
 
 measure-strokes-requires : tie.Need-measure-strokes-requires
 unfolding pointRoom
-measure-strokes-requires c κs = omega (arith, c .before .point-room .ensures, min-le-right (c .before .before .before .before .before .before .before .before .before .before .before .before .before .before .args .room / 3) mostPoints)
+measure-strokes-requires c κs = omega (arith, c .point-room .ensures, min-le-right (c .before .before .before .before .before .before .before .before .before .before .before .before .args .room / 3) mostPoints)
 
 verdict-of-requires : tie.Need-verdict-of-requires
 verdict-of-requires c κs = search needs
@@ -62,11 +59,10 @@ verdict-of-requires c κs = search needs
 returns-5 : tie.Need-returns-5
 unfolding adaptiveVerdict unless
 returns-5 c =
-    let a = c .before .before .before .before .before .before .before .before .before .before .before .before .before .before .before .before .args in
-    let v = c .before .before .before .before .lens-of .ensures ∙ c .before .before .before .before .before .view-of .ensures in
-    let t = Left (c .before .before .before .point-room .result) (a .start-room) in
-    let q = c .verdict-of .ensures ∙ ap verdictOf (c .before .measure-strokes .ensures ∙ ap (λ (x : View). spentAll t (walksOf x (a .points .now) (a .starts .now))) v) in
-    simp (sym (c .before .before .before .before .before .before .before .before .before .before .before .before .before .shaped .ensures) ∙ not-false _ (c .before .before .before .before .before .before .before .before .before .before .before .before .if1 .left), sym (c .before .before .before .before .before .before .before .before .before .before .before .counted .ensures) ∙ not-false _ (c .before .before .before .before .before .before .before .before .before .before .if2 .left), sym (c .before .before .before .before .before .before .before .before .before .coordinates-good .ensures) ∙ not-false _ (c .before .before .before .before .before .before .before .before .if3 .left), sym (c .before .before .before .before .before .before .before .numbers-good .ensures) ∙ not-false _ (c .before .before .before .before .before .before .if4 .left)) (q ∙ rw (c .before .before .before .point-room .ensures))
+    let a = c .before .before .before .before .before .before .before .before .before .before .before .before .before .before .args in
+    let t = Left (c .before .before .point-room .result) (a .start-room) in
+    let q = c .verdict-of .ensures ∙ ap verdictOf (c .before .measure-strokes .ensures ∙ ap (λ (x : View). spentAll t (walksOf x (a .points .now) (a .starts .now))) (c .before .before .before .view-of .ensures)) in
+    simp (sym (c .before .before .before .before .before .before .before .before .before .before .before .shaped .ensures) ∙ not-false _ (c .before .before .before .before .before .before .before .before .before .before .if1 .left), sym (c .before .before .before .before .before .before .before .before .before .counted .ensures) ∙ not-false _ (c .before .before .before .before .before .before .before .before .if2 .left), sym (c .before .before .before .before .before .before .before .coordinates-good .ensures) ∙ not-false _ (c .before .before .before .before .before .before .if3 .left), sym (c .before .before .before .before .before .numbers-good .ensures) ∙ not-false _ (c .before .before .before .before .if4 .left)) (q ∙ rw (c .before .before .point-room .ensures))
 
 pub adaptive-verdict-spec : {M : Type 1} → statement M
 adaptive-verdict-spec =
@@ -81,7 +77,6 @@ adaptive-verdict-spec =
     numbers-good-requires
     returns-4
     view-of-requires
-    lens-of-requires
     point-room-requires
     measure-strokes-requires
     verdict-of-requires

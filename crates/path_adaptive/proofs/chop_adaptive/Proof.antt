@@ -25,13 +25,10 @@ enum-told c = search needs
 view-of-requires : tie.Need-view-of-requires
 view-of-requires c κs = search needs
 
-lens-of-requires : tie.Need-lens-of-requires
-lens-of-requires c κs = search needs
-
 write-strokes-requires : tie.Need-write-strokes-requires
 write-strokes-requires c κs =
-    let a = c .before .before .before .before .before .before .before .before .before .before .before .before .args in
-    let h = accepted-at (a .points .now) (a .starts .now) (a .matrix) (a .width) (a .height) (a .step) (a .tolerance) _ _ (c .before .before .before .lens-of .ensures ∙ c .before .before .before .before .view-of .ensures) (sym (c .before .before .before .before .before .before .before .adaptive-verdict .ensures) ∙ c .before .before .before .before .before .enum-told .given .1) in
+    let a = c .before .before .before .before .before .before .before .before .before .before .args in
+    let h = accepted-at (a .points .now) (a .starts .now) (a .matrix) (a .width) (a .height) (a .step) (a .tolerance) _ _ (c .before .before .view-of .ensures) (sym (c .before .before .before .before .before .adaptive-verdict .ensures) ∙ c .before .before .before .enum-told .given .1) in
     (h .calm, h .few, omega (arith, h .strokes), h .halvings)
 
 enum-known-v : tie.Need-enum-known-v
@@ -46,9 +43,9 @@ same-length-2 c = search needs
 returns : tie.Need-returns
 unfolding adaptiveLeft
 returns c =
-    let a = c .before .before .before .before .before .before .before .before .before .before .before .before .before .before .before .before .before .before .args in
-    let z = sym (c .before .before .before .before .before .before .before .before .before .before .before .before .before .adaptive-verdict .ensures) ∙ c .before .before .before .before .before .before .before .before .before .before .before .enum-told .given .1 in
-    let v = c .before .before .before .before .before .before .before .before .before .lens-of .ensures ∙ c .before .before .before .before .before .before .before .before .before .before .view-of .ensures in
+    let a = c .before .before .before .before .before .before .before .before .before .before .before .before .before .before .before .before .args in
+    let z = sym (c .before .before .before .before .before .before .before .before .before .before .before .adaptive-verdict .ensures) ∙ c .before .before .before .before .before .before .before .before .before .enum-told .given .1 in
+    let v = c .before .before .before .before .before .before .before .before .view-of .ensures in
     let r = c .before .before .before .before .before .write-strokes in
     let e = r .ensures .0 ∙ ap (λ (x : View). pushAll putPoints (out (a .out-points .now) (a .out-starts .now) front) (adapted (walksOf x (a .points .now) (a .starts .now)))) v in
     let n = r .ensures .1 ∙ ap (λ (x : View). halvingsOf (walksOf x (a .points .now) (a .starts .now))) v in
@@ -68,7 +65,6 @@ chop-adaptive-spec =
     adaptive-verdict-requires
     enum-told
     view-of-requires
-    lens-of-requires
     write-strokes-requires
     enum-known-v
     same-length

@@ -1,4 +1,5 @@
--- `bound_strokes` meets its contract.
+-- `bound_strokes` meets its contract. All strokes write at most the points counted and those of the strokes from the
+-- j-th on, but for what passes the limit; the strokes that are left fall.
 use borrow.Author.Needs.{needs}
 use mathlib.Core.Path.{_≡_, ap, _∙_}
 use mathlib.Core.List.{List}

@@ -1,4 +1,5 @@
--- `count_spans` meets its contract.
+-- `count_spans` meets its contract. The points counted and those of the spans from place j on are those of all, but for
+-- what passes the limit; the points that are left fall.
 use borrow.Author.Needs.{needs}
 use Rattle.path_chop.proofs.Counts.{count-within, spans-count, cap-over}
 use Rattle.path_chop.proofs.Chops.{reach-is, reach-count, spans-none}

@@ -1,4 +1,5 @@
--- `count_steps` meets its contract.
+-- `count_steps` meets its contract. The steps counted and those from the distance d on are all steps; the steps that
+-- may still be counted fall.
 use borrow.Author.Needs.{needs}
 use Rattle.path_chop.proofs.Chops.{steps-more, steps-stop, steps-none}
 use Rattle.path_chop.specs.Chop.{stepsOf}

@@ -1,4 +1,5 @@
--- `count_strokes` meets its contract.
+-- `count_strokes` meets its contract. The points counted and those of the strokes from the j-th on are those of all,
+-- but for what passes the limit; the strokes that are left fall.
 use borrow.Author.Needs.{needs}
 use mathlib.Core.Path.{_≡_, sym, ap, _∙_}
 use mathlib.Core.List.{List}

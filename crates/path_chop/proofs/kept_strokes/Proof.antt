@@ -1,4 +1,5 @@
--- `kept_strokes` meets its contract.
+-- `kept_strokes` meets its contract. Those counted and those that are not empty from the j-th on are all that are not
+-- empty; the strokes that are left fall.
 use borrow.Author.Needs.{needs}
 use mathlib.Core.Path.{_≡_, ap}
 use mathlib.Core.List.{List}

@@ -1,4 +1,5 @@
--- `longest` meets its contract: what is the longest so far reaches as far as any span so far (`longest-turn`).
+-- `longest` meets its contract. The spans before j write at most what as many of the longest of them would
+-- (`longest-turn`), whatever the step; the points that are left fall.
 use borrow.Author.Needs.{needs}
 use native.Mathlib.Omega.{arith}
 use native.Mathlib.Nat.{le-refl}

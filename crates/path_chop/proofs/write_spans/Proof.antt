@@ -1,4 +1,5 @@
--- `write_spans` meets its contract: v and l are always those of the span that comes next.
+-- `write_spans` meets its contract. Writing the spans from place j on from here leaves what writing all leaves, and v
+-- and l are those of the span that comes next; the points that are left fall.
 use borrow.Author.Needs.{needs}
 use Rattle.path_chop.proofs.Chops.{reach-is, spans-turn, spans-end, spans-room}
 use Rattle.vector.specs.declared.Vector.{Vector}

@@ -1,4 +1,5 @@
--- `write_steps` meets its contract.
+-- `write_steps` meets its contract. Writing the points from the distance d on from here leaves what writing all leaves;
+-- the steps that may still be made fall.
 use Rattle.vector.specs.Vectors.{addOf}
 use borrow.Author.Needs.{needs}
 use Rattle.path_chop.proofs.Chops.{steps-turn, steps-room, steps-halt, steps-end}

@@ -1,4 +1,5 @@
--- `write_strokes` meets its contract.
+-- `write_strokes` meets its contract. Pushing the strokes from the i-th on from here leaves what pushing all leaves;
+-- the strokes that are left fall.
 use borrow.Author.Needs.{needs}
 use Rattle.path_chop.proofs.Chops.{chopped-more, chopped-none}
 use Rattle.path.proofs.Pushes.{push-turn, push-end, push-room, push-starts}

@@ -1,31 +1,61 @@
 -- `is_connected` meets its contract.
-use mathlib.Core.Path.{sym, ap, _∙_}
+use mathlib.Core.Path.{_≡_, sym, ap, _∙_}
 use mathlib.Core.Bool.{not}
-use Prim.Native.Nat.{ℕ, _+_, _*_}
-use lib.ListN.{getD}
+use Prim.Native.Nat.{ℕ, _*_}
 use borrow.Author.Needs.{needs}
 use Rattle.order.proofs.Parts.{get-region}
-use Rattle.path_ends.specs.Splice.{isZero}
-use Rattle.path_link.proofs.Stepping.{zero-test}
+use Rattle.path_ends.specs.Splice.{isFree}
+use Rattle.path_link.specs.declared.Link.{Link}
+use Rattle.path_link.specs.Links.{wordOf}
+use Rattle.path_link.specs.Layout.{linksIn}
+use Rattle.path_link.specs.Walk.{linkIn}
 use Rattle.path_link.proofs.is_connected.Statement.{statement}
 use Rattle.path_link.proofs.is_connected.Tie as tie
 
-mul-result : tie.Need-mul-result
-mul-result c = search needs
+mul-link-in : tie.Need-mul-link-in
+mul-link-in c = search needs
 
-add-result : tie.Need-add-result
-add-result c = search needs
+add-link-in : tie.Need-add-link-in
+add-link-in c = search needs
 
-mul-result-2 : tie.Need-mul-result-2
-mul-result-2 c = search needs
+mul-link-in-2 : tie.Need-mul-link-in-2
+mul-link-in-2 c = search needs
 
-shared-slice-read-result : tie.Need-shared-slice-read-result
-shared-slice-read-result c = search needs
+shared-slice-read-link-in : tie.Need-shared-slice-read-link-in
+shared-slice-read-link-in c = search needs
+
+link-in-requires : tie.Need-link-in-requires
+link-in-requires c κs = search needs
+
+enum-told : tie.Need-enum-told
+enum-told c = search needs
+
+enum-told-2 : tie.Need-enum-told-2
+enum-told-2 c = search needs
+
+-- the link that was read is that of end e
+read : (c : tie.After-link-in)
+    → let a = c .before .before .before .args in not (isFree (wordOf (c .link-in .result))) ≡ not (isFree (linkIn (linksIn (a .s .now) (a .n)) (a .e .0)))
+read c =
+    let z = c .before .before .before in
+    ap (λ (x : ℕ). not (isFree x)) (c .link-in .ensures ∙ sym (get-region (z .args .s .now) (4 * z .args .n) (2 * z .args .n) (z .args .e .0) (z .pre .2)))
 
 returns : tie.Need-returns
-returns c =
-    let a = c .before .args in
-    ap not (zero-test (getD (a .s .now) (4 * a .n + a .e .0) 0)) ∙ ap (λ (x : ℕ). not (isZero x)) (sym (get-region (a .s .now) (4 * a .n) (2 * a .n) (a .e .0) (c .before .pre .2)))
+returns c = ap (λ (l : Link). not (isFree (wordOf l))) (sym (c .enum-told .given .1)) ∙ read (c .before .before)
+
+returns-2 : tie.Need-returns-2
+returns-2 c = ap (λ (l : Link). not (isFree (wordOf l))) (sym (c .enum-told2 .given .1)) ∙ read (c .before .before)
 
 pub is-connected-spec : {M : Type 1} → statement M
-is-connected-spec = tie.close (tie.spec mul-result add-result mul-result-2 shared-slice-read-result returns)
+is-connected-spec =
+    tie.close
+    (tie.spec
+    mul-link-in
+    add-link-in
+    mul-link-in-2
+    shared-slice-read-link-in
+    link-in-requires
+    enum-told
+    enum-told-2
+    returns
+    returns-2)

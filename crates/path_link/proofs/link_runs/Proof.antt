@@ -1,17 +1,19 @@
--- `link_runs` meets its contract.
+-- `link_runs` meets its contract. A run begins at p, the ends at the places before it are linked by their mirrors, and
+-- no other word is changed; the places that are left fall.
 use native.Mathlib.Omega.{arith}
 use mathlib.Core.Path.{_≡_, refl, _∙_}
 use Prim.Native.Nat.{_-_, _*_, _≤_}
 use lib.ListN.{length}
 use Rattle.order.specs.Regions.{region, Into}
 use Rattle.path_link.specs.Runs.{Linked}
+use Rattle.path_link.specs.Layout.{orderAt, linksAt, valuesIn, linksIn}
 use Rattle.path_link.proofs.Running.{Edge}
 use Rattle.path_link.proofs.Mirroring.{links-none, reach-lt, reach-in, ends-low, ends-apart, links-more, links-all}
 use Rattle.path_link.proofs.link_runs.Statement.{statement}
 use Rattle.path_link.proofs.link_runs.Tie as tie
 
 abbrev Inv-loop : tie.InvT-loop
-Inv-loop s₀ n c p₀ s p = (p ≤ c) × (length s ≡ length s₀) × (Edge (region s₀ 0 (2 * n)) (region s₀ (2 * n) c) p × Into s₀ s (4 * n) (2 * n) (λ ls. Linked (region s₀ 0 (2 * n)) (region s₀ (2 * n) c) (region s₀ (4 * n) (2 * n)) ls p))
+Inv-loop s₀ n c p₀ s p = (p ≤ c) × (length s ≡ length s₀) × (Edge (valuesIn s₀ n) (region s₀ (orderAt n) c) p × Into s₀ s (linksAt n) (2 * n) (λ ls. Linked (valuesIn s₀ n) (region s₀ (orderAt n) c) (linksIn s₀ n) ls p))
 
 abbrev μ-loop : tie.MeasureT-loop
 μ-loop s₀ n c p₀ s p = c - p

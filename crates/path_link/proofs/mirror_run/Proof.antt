@@ -1,17 +1,19 @@
--- `mirror_run` meets its contract.
+-- `mirror_run` meets its contract. The ends at the places from p up to x are linked by their mirrors in the run, and no
+-- other word is changed; the places of the run that are left fall.
 use native.Mathlib.Omega.{arith}
 use mathlib.Core.Path.{_≡_, refl}
-use Prim.Native.Nat.{_+_, _-_, _*_, _≤_}
-use lib.ListN.{length, length-set}
+use Prim.Native.Nat.{ℕ, _+_, _-_, _*_, _<_, _≤_}
+use lib.ListN.{length, getD, length-set}
 use Rattle.order.specs.Regions.{region, Into}
 use Rattle.path_link.specs.Runs.{Mirrored}
+use Rattle.path_link.specs.Layout.{orderAt, linksAt, linksIn}
 use Rattle.path_link.proofs.Mirroring.{mirrors-none, end-lt, mirrors-more, mirrors-all}
 use borrow.Author.Needs.{needs}
 use Rattle.path_link.proofs.mirror_run.Statement.{statement}
 use Rattle.path_link.proofs.mirror_run.Tie as tie
 
 abbrev Inv-loop : tie.InvT-loop
-Inv-loop s₀ n c p q x₀ s x = (p ≤ x) × (x ≤ q) × (length s ≡ length s₀) × Into s₀ s (4 * n) (2 * n) (λ ls. Mirrored (region s₀ (2 * n) c) (region s₀ (4 * n) (2 * n)) ls p q x)
+Inv-loop s₀ n c p q x₀ s x = (p ≤ x) × (x ≤ q) × (length s ≡ length s₀) × Into s₀ s (linksAt n) (2 * n) (λ ls. Mirrored (region s₀ (orderAt n) c) (linksIn s₀ n) ls p q x)
 
 abbrev μ-loop : tie.MeasureT-loop
 μ-loop s₀ n c p q x₀ s x = q - x
@@ -20,6 +22,13 @@ loop-holds : tie.Need-loop-holds Inv-loop μ-loop
 loop-holds c =
     let z = c .before in
     (omega arith, omega arith, refl, mirrors-none (z .args .s .now) (z .args .n) (z .args .c) (z .args .p) (z .args .q) (z .pre .0 .0) (z .pre .0 .2) (z .pre .0 .4) (z .pre .1 .0) (z .pre .1 .1))
+
+-- the words of the order are ends
+end-at : (c : tie.At-loop Inv-loop μ-loop) (y : ℕ) → let z = c .before .before in y < z .args .c → getD (c .loop .s) (2 * z .args .n + y) 0 < 2 * z .args .n
+end-at c =
+    let z = c .before .before in
+    let l = c .loop in
+    end-lt (z .args .s .now) (z .args .n) (z .args .c) (z .args .p) (z .args .q) (z .pre .0 .0) (z .pre .0 .2) (z .pre .0 .4) (z .pre .1 .0) (z .pre .1 .1) (l .s) (l .x) (l .inv .3)
 
 mul-e : tie.Need-mul-e Inv-loop μ-loop
 mul-e c = search needs
@@ -58,13 +67,13 @@ cast-t12 : tie.Need-cast-t12 Inv-loop μ-loop
 cast-t12 c =
     let z = c .before .before .before .before .before in
     let l = c .before .before .before .loop in
-    omega (arith, z .pre .0 .1, end-lt (z .args .s .now) (z .args .n) (z .args .c) (z .args .p) (z .args .q) (z .pre .0 .0) (z .pre .0 .2) (z .pre .0 .4) (z .pre .1 .0) (z .pre .1 .1) (l .s) (l .x) (l .inv .3) (l .x) (omega arith))
+    omega (arith, z .pre .0 .1, end-at (c .before .before .before) (l .x) (omega arith))
 
 cast-t13 : tie.Need-cast-t13 Inv-loop μ-loop
 cast-t13 c =
     let z = c .before .before .before .before .before in
     let l = c .before .before .before .loop in
-    omega (arith, z .pre .0 .1, end-lt (z .args .s .now) (z .args .n) (z .args .c) (z .args .p) (z .args .q) (z .pre .0 .0) (z .pre .0 .2) (z .pre .0 .4) (z .pre .1 .0) (z .pre .1 .1) (l .s) (l .x) (l .inv .3) (z .args .p + z .args .q - 1 - l .x) (omega arith))
+    omega (arith, z .pre .0 .1, end-at (c .before .before .before) (z .args .p + z .args .q - 1 - l .x) (omega arith))
 
 mirror-link-requires : tie.Need-mirror-link-requires Inv-loop μ-loop
 mirror-link-requires c κs = search needs
@@ -76,31 +85,31 @@ cast-i : tie.Need-cast-i Inv-loop μ-loop
 cast-i c =
     let z = c .before .before .before .before .before .before in
     let l = c .before .before .before .before .loop in
-    omega (arith, z .pre .0 .1, end-lt (z .args .s .now) (z .args .n) (z .args .c) (z .args .p) (z .args .q) (z .pre .0 .0) (z .pre .0 .2) (z .pre .0 .4) (z .pre .1 .0) (z .pre .1 .1) (l .s) (l .x) (l .inv .3) (l .x) (omega arith))
+    omega (arith, z .pre .0 .1, end-at (c .before .before .before .before) (l .x) (omega arith))
 
 add-i : tie.Need-add-i Inv-loop μ-loop
 add-i c =
     let z = c .before .before .before .before .before .before in
     let l = c .before .before .before .before .loop in
-    omega (arith, z .pre .0 .1, end-lt (z .args .s .now) (z .args .n) (z .args .c) (z .args .p) (z .args .q) (z .pre .0 .0) (z .pre .0 .2) (z .pre .0 .4) (z .pre .1 .0) (z .pre .1 .1) (l .s) (l .x) (l .inv .3) (l .x) (omega arith))
+    omega (arith, z .pre .0 .1, end-at (c .before .before .before .before) (l .x) (omega arith))
 
 word-of-requires : tie.Need-word-of-requires Inv-loop μ-loop
 word-of-requires c κs =
     let z = c .before .before .before .before .before .before in
     let l = c .before .before .before .before .loop in
-    omega (arith, c .mirror-link .ensures .1, z .pre .0 .1, end-lt (z .args .s .now) (z .args .n) (z .args .c) (z .args .p) (z .args .q) (z .pre .0 .0) (z .pre .0 .2) (z .pre .0 .4) (z .pre .1 .0) (z .pre .1 .1) (l .s) (l .x) (l .inv .3) (z .args .p + z .args .q - 1 - l .x) (omega arith))
+    omega (arith, c .mirror-link .ensures .1, z .pre .0 .1, end-at (c .before .before .before .before) (z .args .p + z .args .q - 1 - l .x) (omega arith))
 
 mul-s : tie.Need-mul-s Inv-loop μ-loop
 mul-s c =
     let z = c .before .before .before .before .before .before .before in
     let l = c .before .before .before .before .before .loop in
-    omega (arith, z .pre .0 .1, end-lt (z .args .s .now) (z .args .n) (z .args .c) (z .args .p) (z .args .q) (z .pre .0 .0) (z .pre .0 .2) (z .pre .0 .4) (z .pre .1 .0) (z .pre .1 .1) (l .s) (l .x) (l .inv .3) (l .x) (omega arith))
+    omega (arith, z .pre .0 .1, end-at (c .before .before .before .before .before) (l .x) (omega arith))
 
 slice-write-s : tie.Need-slice-write-s Inv-loop μ-loop
 slice-write-s c =
     let z = c .before .before .before .before .before .before .before in
     let l = c .before .before .before .before .before .loop in
-    omega (arith, z .pre .0 .0, l .inv .2, end-lt (z .args .s .now) (z .args .n) (z .args .c) (z .args .p) (z .args .q) (z .pre .0 .0) (z .pre .0 .2) (z .pre .0 .4) (z .pre .1 .0) (z .pre .1 .1) (l .s) (l .x) (l .inv .3) (l .x) (omega arith))
+    omega (arith, z .pre .0 .0, l .inv .2, end-at (c .before .before .before .before .before) (l .x) (omega arith))
 
 add-x : tie.Need-add-x Inv-loop μ-loop
 add-x c = search needs

@@ -1,18 +1,21 @@
--- `run` meets its contract.
+-- `run` meets its contract. The stroke of e is still to do, and the chain walked so far with the one from e on is the
+-- chain from the start; the room for ends that is left falls.
 use mathlib.Core.Path.{_≡_, refl, ap}
 use Prim.Native.Nat.{_-_, _*_, _<_, _≤_}
 use native.Mathlib.Omega.{arith}
 use lib.ListN.{length, length-set}
 use borrow.Author.Needs.{needs}
+use Rattle.refusal.specs.Limits.{mostStrokes}
 use Rattle.order.specs.Regions.{region, Into2}
 use Rattle.path_link.specs.Links.{wordOf}
+use Rattle.path_link.specs.Layout.{orderAt, todoAt, linksIn, todoIn}
 use Rattle.path_link.proofs.Loop.{Walking}
 use Rattle.path_link.proofs.Threads.{runs-none, end-lt, place-lt, within-more, runs-finish, runs-turn}
 use Rattle.path_link.proofs.run.Statement.{statement}
 use Rattle.path_link.proofs.run.Tie as tie
 
 abbrev Inv-loop : tie.InvT-loop
-Inv-loop s₀ n at e₀ k₀ f₀ s e k f = (e .0 < 2 * n) × (k < n) × (f ≤ 1) × (length s ≡ length s₀) × Into2 s₀ s (6 * n) n (2 * n) n (λ t o. Walking (region s₀ (4 * n) (2 * n)) (region s₀ (6 * n) n) (region s₀ (2 * n) n) at (e₀ .0) t o (e .0) k f)
+Inv-loop s₀ n at e₀ k₀ f₀ s e k f = (e .0 < 2 * n) × (k < n) × (f ≤ 1) × (length s ≡ length s₀) × Into2 s₀ s (todoAt n) n (orderAt n) n (λ t o. Walking (linksIn s₀ n) (todoIn s₀ n) (region s₀ (orderAt n) n) at (e₀ .0) t o (e .0) k f)
 
 abbrev μ-loop : tie.MeasureT-loop
 μ-loop s₀ n at e₀ k₀ f₀ s e k f = n - k
@@ -26,41 +29,49 @@ loop-holds c =
 path-id-requires : tie.Need-path-id-requires Inv-loop μ-loop
 path-id-requires c κs = search needs
 
+-- the words reach, and the stroke that is drawn is one of them
+bounds : (c : tie.After-path-id Inv-loop μ-loop)
+    → let n = c .before .before .before .args .n in (7 * n ≤ length (c .before .loop .s)) × (n ≤ mostStrokes) × (c .path-id .result < n)
+bounds c =
+    let z = c .before .before .before in
+    let l = c .before .loop in
+    (omega (arith, z .pre .0 .size, l .inv .3), z .pre .0 .few, omega (arith, c .path-id .ensures, l .inv .0))
+
 mul-s : tie.Need-mul-s Inv-loop μ-loop
-mul-s c = omega (arith, c .before .before .before .pre .0 .size, c .before .before .before .pre .0 .few, c .before .loop .inv .3, c .path-id .ensures)
+mul-s c = omega (arith, bounds c)
 
 add-s : tie.Need-add-s Inv-loop μ-loop
-add-s c = omega (arith, c .before .before .before .pre .0 .size, c .before .before .before .pre .0 .few, c .before .loop .inv .3, c .path-id .ensures)
+add-s c = omega (arith, bounds c)
 
 mul-s-2 : tie.Need-mul-s-2 Inv-loop μ-loop
-mul-s-2 c = omega (arith, c .before .before .before .pre .0 .size, c .before .before .before .pre .0 .few, c .before .loop .inv .3, c .path-id .ensures)
+mul-s-2 c = omega (arith, bounds c)
 
 slice-write-s : tie.Need-slice-write-s Inv-loop μ-loop
-slice-write-s c = omega (arith, c .before .before .before .pre .0 .size, c .before .before .before .pre .0 .few, c .before .loop .inv .3, c .path-id .ensures)
+slice-write-s c = omega (arith, bounds c)
 
 add-s-2 : tie.Need-add-s-2 Inv-loop μ-loop
-add-s-2 c = omega (arith, c .before .before .before .before .pre .0 .size, c .before .before .before .before .pre .0 .few, c .before .before .loop .inv .3, c .before .path-id .ensures)
+add-s-2 c = omega (arith, bounds (c .before))
 
 add-s-3 : tie.Need-add-s-3 Inv-loop μ-loop
-add-s-3 c = omega (arith, c .before .before .before .before .pre .0 .size, c .before .before .before .before .pre .0 .few, c .before .before .loop .inv .3, c .before .path-id .ensures)
+add-s-3 c = omega (arith, bounds (c .before))
 
 cast-s : tie.Need-cast-s Inv-loop μ-loop
-cast-s c = omega (arith, c .before .before .before .before .pre .0 .size, c .before .before .before .before .pre .0 .few, c .before .before .loop .inv .3, c .before .path-id .ensures)
+cast-s c = omega (arith, bounds (c .before))
 
 mul-s-3 : tie.Need-mul-s-3 Inv-loop μ-loop
-mul-s-3 c = omega (arith, c .before .before .before .before .pre .0 .size, c .before .before .before .before .pre .0 .few, c .before .before .loop .inv .3, c .before .path-id .ensures)
+mul-s-3 c = omega (arith, bounds (c .before))
 
 add-s-4 : tie.Need-add-s-4 Inv-loop μ-loop
-add-s-4 c = omega (arith, c .before .before .before .before .pre .0 .size, c .before .before .before .before .pre .0 .few, c .before .before .loop .inv .3, c .before .path-id .ensures)
+add-s-4 c = omega (arith, bounds (c .before))
 
 mul-s-4 : tie.Need-mul-s-4 Inv-loop μ-loop
-mul-s-4 c = omega (arith, c .before .before .before .before .pre .0 .size, c .before .before .before .before .pre .0 .few, c .before .before .loop .inv .3, c .before .path-id .ensures)
+mul-s-4 c = omega (arith, bounds (c .before))
 
 slice-write-s-2 : tie.Need-slice-write-s-2 Inv-loop μ-loop
-slice-write-s-2 c = rw length-set (omega (arith, c .before .before .before .before .pre .0 .size, c .before .before .before .before .pre .0 .few, c .before .before .loop .inv .3, c .before .path-id .ensures))
+slice-write-s-2 c = rw length-set (omega (arith, bounds (c .before)))
 
 add-k : tie.Need-add-k Inv-loop μ-loop
-add-k c = omega (arith, c .before .before .before .before .pre .0 .size, c .before .before .before .before .pre .0 .few, c .before .before .loop .inv .3, c .before .path-id .ensures)
+add-k c = omega (arith, bounds (c .before))
 
 go-on-requires : tie.Need-go-on-requires Inv-loop μ-loop
 go-on-requires c κs =

@@ -1,4 +1,4 @@
--- `run_end` meets its contract.
+-- `run_end` meets its contract. The places from p up to q have the value of p; the places that are left fall.
 use native.Mathlib.Omega.{arith}
 use borrow.Author.Needs.{needs}
 use mathlib.Core.Path.{_≡_, sym, _∙_}

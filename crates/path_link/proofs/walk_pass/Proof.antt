@@ -1,15 +1,17 @@
--- `walk_pass` meets its contract.
+-- `walk_pass` meets its contract. The chains drawn so far and those of the strokes from the i-th on are those of all
+-- strokes; the strokes that are left fall.
 use native.Mathlib.Omega.{arith}
 use mathlib.Core.Path.{_≡_, refl, _∙_}
-use Prim.Native.Nat.{_-_, _*_, _≤_}
+use Prim.Native.Nat.{_-_, _≤_}
 use lib.ListN.{length}
 use Rattle.order.specs.Regions.{Into2}
+use Rattle.path_link.specs.Layout.{orderAt, todoAt}
 use Rattle.path_link.proofs.Threads.{Passing, passes-none, ready-more, passes-more, passes-all}
 use Rattle.path_link.proofs.walk_pass.Statement.{statement}
 use Rattle.path_link.proofs.walk_pass.Tie as tie
 
 abbrev Inv-loop : tie.InvT-loop
-Inv-loop s₀ n at rings i₀ k₀ s i k = (i ≤ n) × (length s ≡ length s₀) × Into2 s₀ s (6 * n) n (2 * n) n (Passing s₀ n at rings i k)
+Inv-loop s₀ n at rings i₀ k₀ s i k = (i ≤ n) × (length s ≡ length s₀) × Into2 s₀ s (todoAt n) n (orderAt n) n (Passing s₀ n at rings i k)
 
 abbrev μ-loop : tie.MeasureT-loop
 μ-loop s₀ n at rings i₀ k₀ s i k = n - i

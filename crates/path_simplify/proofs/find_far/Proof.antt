@@ -1,4 +1,5 @@
--- `find_far` meets its contract.
+-- `find_far` meets its contract. The records so far (`Rising`) tell the farthest point before i, and with the points
+-- from i on they give what all give; the points that are left fall.
 use borrow.Author.Needs.{needs}
 use Rattle.path_simplify.proofs.Thins.{far-turn, far-end}
 use Rattle.vector.specs.Lengths.{zero64, segmentDistanceOf}

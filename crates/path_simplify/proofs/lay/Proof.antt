@@ -1,4 +1,5 @@
--- `lay` meets its contract.
+-- `lay` meets its contract. Putting the points of the places from the i-th on from here leaves what putting all leaves;
+-- the places that are left fall.
 use borrow.Author.Needs.{needs}
 use mathlib.Core.Path.{_≡_, refl, sym, _∙_}
 use mathlib.Core.List.{map}

@@ -1,8 +1,9 @@
 -- `segment_square` meets its contract: between the ends no test is left after the division.
 use borrow.Author.Needs.{needs}
 use mathlib.Core.Path.{_≡_}
-use Rattle.vector.specs.Vectors.{subOf, dotOf}
-use Rattle.path_simplify.proofs.Squares.{between}
+use Rattle.vector.specs.Vectors.{subOf, dotOf, distanceSquaredOf}
+use Rattle.path_simplify.specs.Squares.{segmentSquareOf}
+use Rattle.vector.proofs.Segments.{between}
 use Rattle.path_simplify.proofs.segment_square.Statement.{statement}
 use Rattle.path_simplify.proofs.segment_square.Tie as tie
 
@@ -34,12 +35,13 @@ distance-squared-requires-2 : tie.Need-distance-squared-requires-2
 distance-squared-requires-2 c κs = search needs
 
 returns : tie.Need-returns
+unfolding segmentSquareOf
 returns c =
     let a = c .before .before .before .before .before .before .before .before .before .before .args in
     let i = c .before .before .before .before .before .inside .ensures (c .before .before .before .before .if1 .taken) in
     let d : c .before .before .before .before .before .before .dot .result ≡ dotOf (subOf (a .p) (a .v)) (subOf (a .w) (a .v)) = rw (c .before .before .before .before .before .before .dot .ensures, c .before .before .before .before .before .before .before .sub2 .ensures, c .before .before .before .before .before .before .before .before .sub .ensures) in
     rw (c .distance-squared2 .ensures, c .before .add .ensures, c .before .before .mul-scalar .ensures, c .before .before .before .sub3 .ensures)
-    (between (a .p) (a .v) (a .w) _ (c .before .before .before .before .before .before .before .before .before .distance-squared .ensures) _ d (i .0) (i .1) (i .2))
+    (between distanceSquaredOf (a .p) (a .v) (a .w) _ (c .before .before .before .before .before .before .before .before .before .distance-squared .ensures) _ d (i .0) (i .1) (i .2))
 
 clamped-square-requires : tie.Need-clamped-square-requires
 clamped-square-requires c κs = search needs

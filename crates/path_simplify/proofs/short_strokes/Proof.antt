@@ -1,4 +1,5 @@
--- `short_strokes` meets its contract.
+-- `short_strokes` meets its contract. The strokes from the j-th on are short where all are; the strokes that are left
+-- fall.
 use borrow.Author.Needs.{needs}
 use Rattle.path_simplify.proofs.Totals.{short-more, short-none}
 use Rattle.path_simplify.specs.Call.{shortOf}

@@ -1,4 +1,5 @@
--- `write_strokes` meets its contract.
+-- `write_strokes` meets its contract. Pushing the strokes from the i-th on from here leaves what pushing all leaves,
+-- and their distances and those measured are all; the strokes that are left fall.
 use borrow.Author.Needs.{needs}
 use Rattle.path_simplify.proofs.Totals.{thins-more, thins-none, more-points, more-distances, ends-in, short-in}
 use Rattle.path.proofs.Pushes.{push-turn, push-end, push-room, push-starts}

@@ -1,4 +1,5 @@
--- `fill_pairs` meets its contract.
+-- `fill_pairs` meets its contract. The strokes below i are there and begin where their pair lies, and no other word is
+-- changed; the strokes that are left fall.
 use mathlib.Core.Path.{_≡_, refl, subst}
 use Prim.Native.Nat.{ℕ, _-_, _*_, _≤_}
 use native.Mathlib.Omega.{arith}

@@ -1,4 +1,5 @@
--- `fill_todo` meets its contract.
+-- `fill_todo` meets its contract. The words below i say whether their strokes have points; the words that are left
+-- fall.
 use native.Mathlib.Omega.{arith}
 use mathlib.Core.Path.{_≡_, refl}
 use Prim.Native.Nat.{ℕ, _-_, _<_, _≤_}

@@ -1,4 +1,4 @@
--- `fill_values` meets its contract.
+-- `fill_values` meets its contract. The words below e have the values of their ends; the words that are left fall.
 use native.Mathlib.Omega.{arith}
 use mathlib.Core.Path.{_≡_, refl}
 use Prim.Native.Nat.{ℕ, _-_, _<_, _≤_}

@@ -1,4 +1,5 @@
--- `read_out` meets its contract.
+-- `read_out` meets its contract. Reading the ends from the j-th on from here leaves what reading all leaves, points and
+-- starts (`Reading`); the ends that are left fall.
 use native.Mathlib.Omega.{arith}
 use mathlib.Core.Path.{_≡_, refl}
 use Prim.Native.Nat.{_-_, _≤_}

@@ -1,4 +1,5 @@
--- `write_backward` meets its contract.
+-- `write_backward` meets its contract. Putting the points before i, the last first, from here leaves what putting all
+-- leaves; i falls.
 use native.Mathlib.Omega.{arith}
 use mathlib.Core.Path.{_≡_, refl, sym, _∙_}
 use Prim.Native.Nat.{_+_, _-_, _≤_}

@@ -1,4 +1,5 @@
--- `write_forward` meets its contract.
+-- `write_forward` meets its contract. Putting the points from i on from here leaves what putting all leaves; the points
+-- that are left fall.
 use native.Mathlib.Omega.{arith}
 use mathlib.Core.Path.{_≡_, refl, sym, _∙_}
 use Prim.Native.Nat.{_+_, _-_, _≤_}

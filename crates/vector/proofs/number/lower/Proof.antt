@@ -1,4 +1,5 @@
--- `lower` meets its contract: one less at each turn, and the loop stops at a square not above n.
+-- `lower` meets its contract. One less at each turn, and the loop stops at a square not above n; the root guessed stays
+-- below 2 ^ 28, and falls.
 use Prim.Native.Nat.{ℕ, zero, suc, _*_, _^_, _≤_, _<_}
 use native.Mathlib.Nat.{le-of-lt, mul-le-mul}
 use native.Mathlib.Omega.{arith}

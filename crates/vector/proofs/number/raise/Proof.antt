@@ -1,4 +1,5 @@
--- `raise` meets its contract: the square is never above n, and the loop stops where the next one is.
+-- `raise` meets its contract. The square is never above n, and the loop stops where the next one is; what the root is
+-- below 2 ^ 27 falls.
 use Prim.Native.Nat.{ℕ, _+_, _-_, _*_, _^_, _≤_, _<_}
 use native.Mathlib.Nat.{lt-of-le-of-lt, mul-le-mul}
 use native.Mathlib.Omega.{arith}

@@ -1,4 +1,5 @@
--- `split` meets its contract: a pattern with a leading digit has its digits, and another's are moved up until they have one.
+-- `split` meets its contract. A pattern with a leading digit has its digits. Another's are moved up until they have
+-- one: digits and exponent say the same number at each turn, and the exponent falls.
 use Prim.Native.Nat.{_/_, _^_, _≤_}
 use native.Mathlib.Omega.{arith}
 use Rattle.vector.specs.Steps.{at}

@@ -1,0 +1,19 @@
+-- `divider` meets its contract.
+use borrow.Author.Needs.{needs}
+use Rattle.path_adaptive.proofs.screen.divider.Statement.{statement}
+use Rattle.path_adaptive.proofs.screen.divider.Tie as tie
+
+add-requires : tie.Need-add-requires
+add-requires c κs = search needs
+
+mul-scalar-requires : tie.Need-mul-scalar-requires
+mul-scalar-requires c κs = search needs
+
+show-requires : tie.Need-show-requires
+show-requires c κs = search needs
+
+returns : tie.Need-returns
+returns c = rw (c .show .ensures, c .before .mul-scalar .ensures, c .before .before .add .ensures)
+
+pub divider-spec : {M : Type 1} → statement M
+divider-spec = tie.close (tie.spec add-requires mul-scalar-requires show-requires returns)
