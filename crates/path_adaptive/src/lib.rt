@@ -22,7 +22,7 @@ ghost use lib.ListN.{length};
 ghost use Rattle.refusal.specs.Limits.{mostPoints};
 ghost use Rattle.path.specs.Strokes.{pointAt, gather};
 ghost use Rattle.path.specs.Laid.{putPoints, pen, out, push, pushAll, joined};
-ghost use Rattle.path.specs.Left.{left};
+ghost use Rattle.path.specs.Call.{left};
 ghost use Rattle.path.specs.Tests.{coordinatesGood};
 ghost use Rattle.path_adaptive.specs.Walk.{viewOf, shownOf, middleOf, bothBelow, bothAbove, outsideOf, endsOf, one, walk, walkFrom, strokeOf, walksOf, adapted, halvingsOf, Calm};
 ghost use Rattle.path_adaptive.specs.Tally.{pointed, begun, spentStroke, spentAll, verdictOf};

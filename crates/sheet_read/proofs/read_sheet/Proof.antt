@@ -1,8 +1,9 @@
 -- `read_sheet` meets its contract: a refusal leaves all as it was, and an accepted call writes the sheet's numbers and starts.
 use mathlib.Core.Path.{sym, _∙_}
 use native.Mathlib.Omega.{arith}
-use Rattle.sheet_read.specs.Read.{readLeft}
-use Rattle.sheet_read.proofs.Calls.{granted, refuse, accept}
+use Rattle.sheet_read.specs.Call.{readLeft}
+use Rattle.refusal.proofs.Outcomes.{accept, refuse}
+use Rattle.sheet_read.proofs.Calls.{granted, all-read}
 use borrow.Author.Needs.{needs}
 use Rattle.sheet_read.proofs.read_sheet.Statement.{statement}
 use Rattle.sheet_read.proofs.read_sheet.Tie as tie
@@ -49,7 +50,7 @@ word-at-requires-4 c κs = search needs
 
 returns : tie.Need-returns
 unfolding readLeft
-returns c = refuse _ _ _ _ _ (sym (c .before .v .given .1) ∙ c .before .before .before .verdict .ensures)
+returns c = refuse _ _ _ _ (sym (c .before .v .given .1) ∙ c .before .before .before .verdict .ensures)
 
 same-length : tie.Need-same-length
 same-length c = search needs
@@ -63,7 +64,8 @@ returns-2 c =
     let a = c .before .before .before .before .before .before .before .before .before .before .before .before .before .before .before .before .before .before .args in
     let z = sym (c .before .before .before .before .before .before .before .before .before .before .before .before .before .before .verdict .ensures) ∙ c .before .before .before .before .before .before .before .before .before .before .before .before .enum-told .given .1 in
     let g = granted (a .bytes .now) _ _ z in
-    accept _ (a .bytes .now) (a .out-numbers .now) (a .out-starts .now) z (g .room-points) (g .room-starts) _ _ _ _ (c .before .word-at3 .ensures) (c .word-at4 .ensures) (c .before .before .before .before .before .before .before .before .before .before .before .word-at .ensures) (c .before .before .before .before .before .before .before .before .before .before .word-at2 .ensures) _ _ (c .before .before .before .before .copy-words2 .ensures) (c .before .before .before .before .before .before .before .before .copy-words .ensures)
+    accept _ _ _ z
+    (all-read (a .bytes .now) (a .out-numbers .now) (a .out-starts .now) (g .room-points) (g .room-starts) _ _ _ _ (c .before .word-at3 .ensures) (c .word-at4 .ensures) (c .before .before .before .before .before .before .before .before .before .before .before .word-at .ensures) (c .before .before .before .before .before .before .before .before .before .before .word-at2 .ensures) _ _ (c .before .before .before .before .copy-words2 .ensures) (c .before .before .before .before .before .before .before .before .copy-words .ensures))
 
 pub read-sheet-spec : {M : Type 1} → statement M
 read-sheet-spec =
