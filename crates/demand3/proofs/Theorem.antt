@@ -6,13 +6,14 @@ use Prim.Native.Nat.{ℕ, zero, suc, _+_, _/_, _%_, _<_, _≤_}
 use native.Mathlib.Omega.{arith}
 use lib.Dec.{eqb, leb, ltb}
 use lib.Ieee.{Float}
-use lib.ListN.{length, getD, take}
+use lib.ListN.{length, getD}
 use borrow.Author.Tests.{ltb-true, leb-true}
 use Rattle.refusal.specs.declared.Verdict.{Verdict}
-use Rattle.refusal.specs.declared.Verdict.the-variants.{Accepted, Refused}
+use Rattle.refusal.specs.declared.Verdict.the-variants.{Accepted}
 use Rattle.refusal.specs.Limits.{mostVertices, mostFaces}
-use Rattle.refusal.specs.Said.{accepted}
-use Rattle.refusal.proofs.Unique.{never-both, same-values}
+use Rattle.refusal.specs.Outcome.{Outcome}
+use Rattle.refusal.proofs.Unique.{same-values}
+use Rattle.refusal.proofs.Outcomes.{was-accepted}
 use Rattle.vector.specs.declared.Vector.{Vector}
 use Rattle.path.specs.Laid.{over, joined, startsFrom}
 use Rattle.path.proofs.Tests.{passed, both}
@@ -22,11 +23,11 @@ use Rattle.path_ends.specs.Splice.{splice}
 use Rattle.path_ends.proofs.Bags.{bags}
 use Rattle.path_ends.proofs.Numbers.{numbers, on-numbers}
 use Rattle.path.specs.Strokes.{strokesIn}
-use Rattle.path_splice.specs.Lent as S
+use Rattle.path_splice.specs.Call as S
 use Rattle.path_splice.specs.declared.Spliced.the-variants as spliced
 use Rattle.mesh.specs.Meshes.{countedOf, allBelow}
 use Rattle.mesh_strokes.specs.Draw.{kept, seenBy, keptOf, drawingOf}
-use Rattle.mesh_strokes.specs.Strokes as L
+use Rattle.mesh_strokes.specs.Call as L
 use Rattle.mesh_strokes.proofs.Drawn as D
 use Rattle.mesh_draw.specs.Call as C
 use Rattle.mesh_draw.specs.declared.Drawing.the-variants as drawing
@@ -53,19 +54,17 @@ read ss op os op′ os′ p q e f g =
 -- ---- splice
 
 module _ (ps ss s op os : List ℕ) where
-  splice-accepted : (v : Verdict) (p q : ℕ) (s′ op′ os′ : List ℕ) → S.left (accepted (p ∷ q ∷ [])) s′ op′ os′ ≡ S.leftBy v (splice 0 eqb (strokesIn ps ss)) s op os
-      → splice 0 eqb (strokesIn ps ss) ≡ strokesWritten p q op′ os′
-  unfolding S.leftBy S.laid
-  splice-accepted Accepted p q s′ op′ os′ e =
-      read (splice 0 eqb (strokesIn ps ss)) op os op′ os′ p q (same-values (ap (λ (l : S.Left). l .answer) e)) (ap (λ (l : S.Left). l .points) e) (ap (λ (l : S.Left). l .starts) e)
-  splice-accepted (Refused r) p q s′ op′ os′ e = absurd (never-both (p ∷ q ∷ []) r (ap (λ (l : S.Left). l .answer) e))
+  splice-laid : (p q : ℕ) (s′ op′ os′ : List ℕ) → S.left (S.said (spliced.Wrote p q)) s′ op′ os′ ≡ S.spliceLeft ps ss s op os → splice 0 eqb (strokesIn ps ss) ≡ strokesWritten p q op′ os′
+  unfolding S.spliceLeft S.laid
+  splice-laid p q s′ op′ os′ e =
+      let g = was-accepted _ _ _ _ _ e .1 in
+      read (splice 0 eqb (strokesIn ps ss)) op os op′ os′ p q (same-values (ap (λ (o : Outcome S.Lent). o .answer) g)) (ap (λ (o : Outcome S.Lent). o .lent .points) g) (ap (λ (o : Outcome S.Lent). o .lent .starts) g)
 
   -- whatever an accepted splice leaves, each pair of the strokes given is drawn as often as there
   pub splice-demand3 : (p q : ℕ) (s′ op′ os′ : List ℕ) → S.left (S.said (spliced.Wrote p q)) s′ op′ os′ ≡ S.spliceLeft ps ss s op os
       → Draws (λ a b. drawn eqb a b (strokesIn ps ss)) (strokesWritten p q op′ os′)
-  unfolding S.spliceLeft
   splice-demand3 p q s′ op′ os′ e =
-      subst (Draws (λ a b. drawn eqb a b (strokesIn ps ss))) (splice-accepted (S.verdictOf ps ss (length s) (length op) (length os)) p q s′ op′ os′ e)
+      subst (Draws (λ a b. drawn eqb a b (strokesIn ps ss))) (splice-laid p q s′ op′ os′ e)
       (draws (strokesIn ps ss) (splice 0 eqb (strokesIn ps ss)) (λ a b. drawn eqb a b (strokesIn ps ss)) (on-numbers (strokesIn ps ss)) (λ a b. refl))
 
 -- ---- draw
@@ -99,18 +98,18 @@ module _ (vs : List Float) (is flips : List ℕ) (number : ℕ) (cosine : Float)
   unfolding keptOf keptPair
   kept-once h a b = once (kept (C.modeNamed number cosine) (seenBy eye vs is) flips tolerance) is (words h) a b
 
-  draw-accepted : (v : Verdict) (p q : ℕ) (s′ : List ℕ) (f′ : List Float) (op′ os′ : List ℕ) → L.left (accepted (p ∷ q ∷ [])) s′ f′ op′ os′ ≡ C.leftBy v drawn-of s f op os
-      → (v ≡ Accepted) × (drawn-of ≡ strokesWritten p q op′ os′)
-  unfolding C.leftBy L.laid
-  draw-accepted Accepted p q s′ f′ op′ os′ e =
-      (refl, read drawn-of op os op′ os′ p q (same-values (ap (λ (l : L.Left). l .answer) e)) (ap (λ (l : L.Left). l .points) e) (ap (λ (l : L.Left). l .starts) e))
-  draw-accepted (Refused r) p q s′ f′ op′ os′ e = absurd (never-both (p ∷ q ∷ []) r (ap (λ (l : L.Left). l .answer) e))
+  draw-laid : (p q : ℕ) (s′ : List ℕ) (f′ : List Float) (op′ os′ : List ℕ) → L.left (C.said (drawing.Wrote p q)) s′ f′ op′ os′ ≡ C.drawLeft vs is flips number cosine eye tolerance s f op os
+      → (verdict ≡ Accepted) × (drawn-of ≡ strokesWritten p q op′ os′)
+  unfolding C.drawLeft L.laid
+  draw-laid p q s′ f′ op′ os′ e =
+      let k = was-accepted _ _ _ _ _ e in
+      let g = k .1 in
+      (k .0, read drawn-of op os op′ os′ p q (same-values (ap (λ (o : Outcome L.Lent). o .answer) g)) (ap (λ (o : Outcome L.Lent). o .lent .points) g) (ap (λ (o : Outcome L.Lent). o .lent .starts) g))
 
   -- whatever an accepted draw leaves: each kept edge once and none invented; then as few open strokes as those edges allow
   pub draw-demand3 : (p q : ℕ) (s′ : List ℕ) (f′ : List Float) (op′ os′ : List ℕ)
       → L.left (C.said (drawing.Wrote p q)) s′ f′ op′ os′ ≡ C.drawLeft vs is flips number cosine eye tolerance s f op os
       → Draws onceKept (strokesWritten p q op′ os′)
-  unfolding C.drawLeft
   draw-demand3 p q s′ f′ op′ os′ e =
-      let g = draw-accepted verdict p q s′ f′ op′ os′ e in
+      let g = draw-laid p q s′ f′ op′ os′ e in
       subst (Draws onceKept) (g .1) (draws (keptOf (C.modeNamed number cosine) eye tolerance flips vs is) drawn-of onceKept (D.drawn (C.modeNamed number cosine) eye tolerance flips vs is) (kept-once (g .0)))

@@ -23,7 +23,7 @@ ghost use lib.ListN.{length};
 ghost use Rattle.refusal.specs.Limits.{mostFaces};
 ghost use Rattle.mesh.specs.Meshes.{shapedOf, allBelow};
 ghost use Rattle.mesh_draw.specs.Call.{namesMode, modeNamed, paired, numbersGood, flatIn, workVerdict, verdictOf, said, drawLeft};
-ghost use Rattle.mesh_strokes.specs.Strokes.{left};
+ghost use Rattle.mesh_strokes.specs.Call.{left};
 
 // What a drawing answers: how many points and starts were written, or the refusal.
 pub enum Drawing {

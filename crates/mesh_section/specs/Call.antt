@@ -10,8 +10,9 @@ use Rattle.refusal.specs.declared.Verdict.{Verdict}
 use Rattle.refusal.specs.declared.Verdict.the-variants.{Accepted}
 use Rattle.refusal.specs.Refusals.{unless}
 use Rattle.refusal.specs.Said.{Said, accepted, refused}
+use Rattle.refusal.specs.Outcome.{Outcome, outcome}
 use Rattle.path.specs.Tests.{coordinatesGood, toleranceGood}
-use Rattle.path.specs.Left.{Left, leftBy}
+use Rattle.path.specs.Call.{Lent, lent, laid}
 use Rattle.mesh.specs.Meshes.{shapedOf, countedOf, allBelow, vectorGood}
 use Rattle.mesh_section.specs.declared.Plane.{Plane}
 use Rattle.mesh_section.specs.declared.Sectioned.{Sectioned}
@@ -40,5 +41,5 @@ verdictOf vs is p tolerance room startRoom =
     (unless (roomFor (length is / 3) room startRoom) Room
     Accepted))))
 
-unfoldable pub sectionLeft : List Float → List ℕ → Plane → Float → List Float → List ℕ → Left
-sectionLeft vs is p tolerance op os = leftBy (verdictOf vs is p tolerance (length op) (length os)) [] (sectionOf vs is p tolerance) op os
+unfoldable pub sectionLeft : List Float → List ℕ → Plane → Float → List Float → List ℕ → Outcome Lent
+sectionLeft vs is p tolerance op os = outcome (verdictOf vs is p tolerance (length op) (length os)) (lent op os) (laid [] (sectionOf vs is p tolerance) op os)

@@ -1,8 +1,8 @@
 -- The steps of a drawing, and what they leave.
-use mathlib.Core.Path.{_≡_, refl, sym, ap, _∙_, subst}
-use mathlib.Core.Bool.{Bool, true, false, _&&_, not, cond}
+use mathlib.Core.Path.{_≡_, ap, _∙_, subst}
+use mathlib.Core.Bool.{Bool, true, false, _&&_, cond}
 use mathlib.Core.List.{List, [], _∷_}
-use Prim.Native.Nat.{ℕ, _+_, _-_, _*_, _/_, _%_, _<_, _≤_}
+use Prim.Native.Nat.{ℕ, _-_, _*_, _/_, _%_, _≤_}
 use native.Mathlib.Omega.{arith}
 use lib.ListN.{length, getD, take, drop, replicate, length-drop}
 use lib.Seq.{take-all}
@@ -11,22 +11,22 @@ use lib.Ieee.{Float}
 use borrow.Author.Tests.{leb-true, le-leb, eqb-true}
 use Rattle.refusal.specs.Limits.{mostFaces, mostStrokes}
 use Rattle.refusal.specs.Said.{Said, accepted}
+use Rattle.refusal.specs.Outcome.{Outcome}
 use Rattle.vector.specs.declared.Vector.{Vector}
 use Rattle.vector.specs.Lengths.{zero64}
-use Rattle.order.specs.Regions.{region}
 use Rattle.path.specs.Laid.{over, joined, startsFrom}
 use Rattle.path.proofs.Tests.{both}
 use Rattle.path_ends.specs.Splice.{splice}
-use Rattle.path_splice.specs.Lent as lent
+use Rattle.path_splice.specs.Call as S
 use Rattle.path_splice.specs.Pairs.{pairsOf, fits, pairsLeft}
 use Rattle.path_splice.specs.Text.{LaidOut}
 use Rattle.mesh.specs.Meshes.{allBelow}
 use Rattle.mesh_mode.specs.declared.Mode.{Mode}
 use Rattle.mesh_edges.specs.Words.{edgesIn}
-use Rattle.mesh_edges.proofs.Said.{edges-words, edges-length}
-use Rattle.mesh_strokes.specs.Draw.{keptOf, drawingOf}
+use Rattle.mesh_edges.proofs.Said.{edges-words}
+use Rattle.mesh_strokes.specs.Draw.{drawingOf}
 use Rattle.mesh_strokes.specs.Walk.{Room, Listed, KeptIn, lookIn, flipsFor, Fitting}
-use Rattle.mesh_strokes.specs.Strokes.{Left, left, laid, scratchFor, roomFor, fits as fitsOf, strokesLeft}
+use Rattle.mesh_strokes.specs.Call.{left, laid, scratchFor, roomFor, fits as fitsOf, strokesLeft}
 use Rattle.mesh_strokes.proofs.Seens.{kept-edges}
 
 -- ---- what the test promises
@@ -73,14 +73,14 @@ first-two : (a b c d : ℕ) → _≡_ {A = Said ℕ} (accepted (a ∷ b ∷ []))
 first-two a b c d e = (ap (λ (s : Said ℕ). getD (s .values) 0 0) e, ap (λ (s : Said ℕ). getD (s .values) 1 0) e)
 
 pub spliced : (t t′ op os op′ os′ : List ℕ) (m p q : ℕ) → fits m (length t) (length op) (length os) ≡ true
-    → lent.left (accepted (p ∷ q ∷ [])) t′ op′ os′ ≡ pairsLeft t m op os → LaidOut (splice 0 eqb (pairsOf (take (2 * m) t))) op os op′ os′ p q
-unfolding pairsLeft lent.laid
+    → S.left (accepted (p ∷ q ∷ [])) t′ op′ os′ ≡ pairsLeft t m op os → LaidOut (splice 0 eqb (pairsOf (take (2 * m) t))) op os op′ os′ p q
+unfolding pairsLeft S.laid
 spliced t t′ op os op′ os′ m p q f e =
     let D = splice 0 eqb (pairsOf (take (2 * m) t)) in
-    let g : lent.left (accepted (p ∷ q ∷ [])) t′ op′ os′ ≡ lent.left (accepted (length (joined D) ∷ length D ∷ [])) (over t (replicate (8 * m) 0)) (over op (joined D)) (over os (startsFrom 0 D)) =
-    e ∙ ap (λ (b : Bool). cond b (lent.left (accepted (length (joined D) ∷ length D ∷ [])) (over t (replicate (8 * m) 0)) (over op (joined D)) (over os (startsFrom 0 D))) (lent.left (accepted (0 ∷ 0 ∷ [])) t op os)) f in
-    let n = first-two p q (length (joined D)) (length D) (ap (λ (x : lent.Left). x .answer) g) in
-    record { points = ap (λ (x : lent.Left). x .points) g; starts = ap (λ (x : lent.Left). x .starts) g; many = n .0; strokes = n .1 }
+    let g : S.left (accepted (p ∷ q ∷ [])) t′ op′ os′ ≡ S.left (accepted (length (joined D) ∷ length D ∷ [])) (over t (replicate (8 * m) 0)) (over op (joined D)) (over os (startsFrom 0 D)) =
+    e ∙ ap (λ (b : Bool). cond b (S.left (accepted (length (joined D) ∷ length D ∷ [])) (over t (replicate (8 * m) 0)) (over op (joined D)) (over os (startsFrom 0 D))) (S.left (accepted (0 ∷ 0 ∷ [])) t op os)) f in
+    let n = first-two p q (length (joined D)) (length D) (ap (λ (x : Outcome S.Lent). x .answer) g) in
+    record { points = ap (λ (x : Outcome S.Lent). x .lent .points) g; starts = ap (λ (x : Outcome S.Lent). x .lent .starts) g; many = n .0; strokes = n .1 }
 
 pub laid-as : (ss ts : List (List ℕ)) (op os op′ os′ : List ℕ) (p q : ℕ) → ss ≡ ts → LaidOut ss op os op′ os′ p q → LaidOut ts op os op′ os′ p q
 laid-as ss ts op os op′ os′ p q e L = subst (λ (D : List (List ℕ)). LaidOut D op os op′ os′ p q) e L

@@ -27,7 +27,7 @@ ghost use Rattle.mesh_edges.specs.Words.{edgesIn};
 ghost use Rattle.mesh_keep.specs.Keep.{keptBy, facesOf, seenIn};
 ghost use Rattle.mesh_strokes.specs.Draw.{drawingOf};
 ghost use Rattle.mesh_strokes.specs.Walk.{Room, Listed, flipAt, withPair, written, edgeKept, KeptIn, lookIn, flipsFor, Fitting};
-ghost use Rattle.mesh_strokes.specs.Strokes.{scratchFor, roomFor, fits as fitsOf, left, strokesLeft};
+ghost use Rattle.mesh_strokes.specs.Call.{scratchFor, roomFor, fits as fitsOf, left, strokesLeft};
 
 // Whether the mode keeps the edge of the sides at the places from p up to q.
 fn keeps(mode: Mode, seen: &[f64], s: &[u32], n: usize, tolerance: f64, p: usize, q: usize) -> bool

@@ -1,19 +1,18 @@
--- What the call leaves: an accepted weld, and a refused one.
-use mathlib.Core.Path.{_≡_, refl, sym, ap, _∙_}
+-- What an accepted weld has been tested for, and what it leaves.
+use mathlib.Core.Path.{_≡_, _∙_}
 use mathlib.Core.List.{List, [], _∷_}
-use Prim.Native.Nat.{ℕ, _+_, _*_, _/_, _%_, _≤_}
+use Prim.Native.Nat.{ℕ, _*_, _/_, _%_, _≤_}
 use native.Mathlib.Omega.{arith}
 use lib.ListN.{length, replicate}
 use lib.Ieee.{Float}
 use borrow.Author.Tests.{leb-true, eqb-true}
 use Rattle.refusal.specs.Limits.{mostFaces}
-use Rattle.refusal.specs.Said.{Said, accepted, refused}
-use Rattle.refusal.specs.declared.Refusal.{Refusal}
-use Rattle.refusal.specs.declared.Verdict.the-variants.{Accepted, Refused}
+use Rattle.refusal.specs.Said.{Said, accepted}
+use Rattle.refusal.specs.declared.Verdict.the-variants.{Accepted}
 use Rattle.path.proofs.Tests.{passed}
 use Rattle.path.proofs.Pushes.{over-sets}
 use Rattle.mesh_weld.specs.Weld.{weldOf}
-use Rattle.mesh_weld.specs.Call.{verdictOf, Left, left, leftBy, weldLeft, Laid}
+use Rattle.mesh_weld.specs.Call.{verdictOf, left, welded, Laid}
 
 -- what an accepted call has been tested for
 pub fitting : (cs : List Float) (w r n : ℕ) → verdictOf cs w r n ≡ Accepted
@@ -31,16 +30,10 @@ fitting cs w r n h =
 same-left : {r q : Said ℕ} {s t : List ℕ} {vs us : List Float} {is js : List ℕ} → r ≡ q → s ≡ t → vs ≡ us → is ≡ js → left r s vs is ≡ left q t us js
 same-left a b c d = cc
 
-module _ (cs : List Float) (s : List ℕ) (vs : List Float) (is : List ℕ) where
-  pub accept : (s′ : List ℕ) (vs′ : List Float) (is′ : List ℕ) (k : ℕ) → verdictOf cs (length s) (length vs) (length is) ≡ Accepted
-      → Laid cs vs is vs′ is′ k → s′ ≡ replicate (length s) 0 → left (accepted (k ∷ length cs / 3 ∷ [])) s′ vs′ is′ ≡ weldLeft cs s vs is
-  unfolding weldLeft leftBy
-  accept s′ vs′ is′ k z d g =
-      let f = fitting cs (length s) (length vs) (length is) z in
-      rw z
-      (same-left (rw (← (d .count), d .length-indices)) g (d .vertices ∙ over-sets vs (weldOf cs .vertices) (d .length-vertices))
-      (d .indices ∙ over-sets is (weldOf cs .indices) (omega (arith, d .length-indices))))
-
-  pub refuse : (r : Refusal) → Refused r ≡ verdictOf cs (length s) (length vs) (length is) → left (refused r) s vs is ≡ weldLeft cs s vs is
-  unfolding weldLeft leftBy
-  refuse r e = rw (← e)
+pub all-welded : (cs : List Float) (s : List ℕ) (vs : List Float) (is s′ : List ℕ) (vs′ : List Float) (is′ : List ℕ) (k : ℕ) → verdictOf cs (length s) (length vs) (length is) ≡ Accepted
+    → Laid cs vs is vs′ is′ k → s′ ≡ replicate (length s) 0 → left (accepted (k ∷ length cs / 3 ∷ [])) s′ vs′ is′ ≡ welded cs s vs is
+unfolding welded
+all-welded cs s vs is s′ vs′ is′ k z d g =
+    let f = fitting cs (length s) (length vs) (length is) z in
+    same-left (rw (← (d .count), d .length-indices)) g (d .vertices ∙ over-sets vs (weldOf cs .vertices) (d .length-vertices))
+    (d .indices ∙ over-sets is (weldOf cs .indices) (omega (arith, d .length-indices)))

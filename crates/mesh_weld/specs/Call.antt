@@ -1,4 +1,4 @@
--- What welding answers and leaves in the lists lent to it.
+-- The call: when welding is refused, what it answers, and what it leaves.
 use mathlib.Core.Path.{_≡_}
 use mathlib.Core.List.{List, [], _∷_}
 use Prim.Native.Nat.{ℕ, _*_, _/_, _%_, _≤_}
@@ -8,10 +8,11 @@ use lib.Dec.{leb, eqb}
 use lib.Ieee.{Float}
 use Rattle.refusal.specs.declared.Refusal.the-variants.{Shape, Count, Number, Scratch, Room}
 use Rattle.refusal.specs.declared.Verdict.{Verdict}
-use Rattle.refusal.specs.declared.Verdict.the-variants.{Accepted, Refused}
+use Rattle.refusal.specs.declared.Verdict.the-variants.{Accepted}
 use Rattle.refusal.specs.Refusals.{unless}
 use Rattle.refusal.specs.Limits.{mostFaces}
 use Rattle.refusal.specs.Said.{Said, accepted, refused}
+use Rattle.refusal.specs.Outcome.{Outcome, leaves, outcome}
 use Rattle.path.specs.Laid.{over}
 use Rattle.path.specs.Tests.{coordinatesGood}
 use Rattle.mesh_weld.specs.declared.Welded.{Welded}
@@ -34,23 +35,24 @@ verdictOf cs words room numbers =
     (unless (leb (length cs / 9 * 3) numbers) Room
     Accepted)))))
 
-pub record Left : Type 0 where
-  pub answer : Said ℕ
+pub record Lent : Type 0 where
   pub scratch : List ℕ
   pub vertices : List Float
   pub indices : List ℕ
 
-abbrev pub left : Said ℕ → List ℕ → List Float → List ℕ → Left
-left a s vs is = record { answer = a; scratch = s; vertices = vs; indices = is }
+abbrev pub lent : List ℕ → List Float → List ℕ → Lent
+lent s vs is = record { scratch = s; vertices = vs; indices = is }
 
--- an accepted call leaves scratch zero and the rest of the output as it was, a refused one all as it was
-unfoldable pub leftBy : Verdict → List Float → List ℕ → List Float → List ℕ → Left
-leftBy Accepted cs s vs is =
+abbrev pub left : Said ℕ → List ℕ → List Float → List ℕ → Outcome Lent
+left a s vs is = leaves a (lent s vs is)
+
+-- accepted: vertices and indices, the rest of both lists as it was, and scratch all zero
+unfoldable pub welded : List Float → List ℕ → List Float → List ℕ → Outcome Lent
+welded cs s vs is =
     left (accepted (weldOf cs .count ∷ length (weldOf cs .indices) ∷ [])) (replicate (length s) 0) (over vs (weldOf cs .vertices)) (over is (weldOf cs .indices))
-leftBy (Refused r) cs s vs is = left (refused r) s vs is
 
-unfoldable pub weldLeft : List Float → List ℕ → List Float → List ℕ → Left
-weldLeft cs s vs is = leftBy (verdictOf cs (length s) (length vs) (length is)) cs s vs is
+unfoldable pub weldLeft : List Float → List ℕ → List Float → List ℕ → Outcome Lent
+weldLeft cs s vs is = outcome (verdictOf cs (length s) (length vs) (length is)) (lent s vs is) (welded cs s vs is)
 
 -- what the loop over the corners leaves
 pub record Laid (cs : List Float) (vs : List Float) (is : List ℕ) (vs′ : List Float) (is′ : List ℕ) (r : ℕ) : Type 0 where

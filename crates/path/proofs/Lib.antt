@@ -4,6 +4,6 @@ pub mod Pushes
 pub mod Points
 pub mod Tests
 pub mod Bounds
-pub mod Lefts
+pub mod Calls
 pub mod Places
 pub mod Again

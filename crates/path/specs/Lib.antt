@@ -1,4 +1,4 @@
 pub mod Strokes
 pub mod Laid
-pub mod Left
+pub mod Call
 pub mod Tests

@@ -1,6 +1,6 @@
 -- Points written equal points read plus halvings. Assumes nothing.
-use mathlib.Core.Path.{_≡_, refl, ap, _∙_}
-use mathlib.Core.Bool.{true, _&&_}
+use mathlib.Core.Path.{_≡_, ap, _∙_}
+use mathlib.Core.Bool.{true}
 use mathlib.Core.List.{List, _∷_}
 use Prim.Native.Nat.{ℕ, _+_, _/_, _%_}
 use native.Mathlib.Omega.{arith}
@@ -8,14 +8,15 @@ use lib.ListN.{length}
 use lib.Dec.{eqb}
 use lib.Ieee.{Float}
 use Rattle.refusal.specs.Said.{accepted}
-use Rattle.refusal.specs.declared.Verdict.{Verdict}
-use Rattle.refusal.specs.declared.Verdict.the-variants.{Accepted, Refused}
-use Rattle.refusal.proofs.Unique.{never-both, same-values}
+use Rattle.refusal.specs.declared.Verdict.the-variants.{Accepted}
+use Rattle.refusal.specs.Outcome.{Outcome}
+use Rattle.refusal.proofs.Unique.{same-values}
+use Rattle.refusal.proofs.Outcomes.{was-accepted}
 use Rattle.vector.specs.declared.Vector.{Vector}
 use Rattle.vector.specs.declared.matrix.Matrix.{Matrix}
 use Rattle.path.specs.Strokes.{goodStarts, pointAt, strokesOf}
 use Rattle.path.specs.Laid.{joined, nonEmpty}
-use Rattle.path.specs.Left.{Left, left, laid, leftBy}
+use Rattle.path.specs.Call.{Lent, left, laid}
 use Rattle.path.specs.Tests.{shapedOf}
 use Rattle.path.proofs.Again.{table-all}
 use Rattle.path.proofs.Tests.{passed, both}
@@ -26,15 +27,10 @@ use Rattle.path_adaptive.proofs.Tallies.{points-and-halvings}
 use Rattle.path_adaptive.proofs.Calls.{adaptive-accepted}
 
 -- an accepted call's values
-module _ (v : Verdict) (more : List ℕ) (ss : List (List Vector)) (op : List Float) (os : List ℕ) where
-  values-are : (vs : List ℕ) (a : List Float) (d : List ℕ) → left (accepted vs) a d ≡ leftBy v more ss op os
-      → (v ≡ Accepted) × (vs ≡ length (joined ss) ∷ length (nonEmpty ss) ∷ more)
-  unfolding leftBy laid
-  values-are vs a d h = go v refl h
-    where
-      go : (u : Verdict) → v ≡ u → left (accepted vs) a d ≡ leftBy u more ss op os → (v ≡ Accepted) × (vs ≡ length (joined ss) ∷ length (nonEmpty ss) ∷ more)
-      go Accepted e k = (e, same-values (ap (λ (x : Left). x .answer) k))
-      go (Refused r) e k = absurd (never-both vs r (ap (λ (x : Left). x .answer) k))
+values-are : (more : List ℕ) (ss : List (List Vector)) (op : List Float) (os : List ℕ) (vs : List ℕ) (a : List Float) (d : List ℕ)
+    → left (accepted vs) a d ≡ laid more ss op os → vs ≡ length (joined ss) ∷ length (nonEmpty ss) ∷ more
+unfolding laid
+values-are more ss op os vs a d h = same-values (ap (λ (o : Outcome Lent). o .answer) h)
 
 shaped-table : (ps : List Float) (ss : List ℕ) → shapedOf ps ss ≡ true → goodStarts (length ps / 3) ss ≡ true
 unfolding shapedOf
@@ -61,9 +57,9 @@ pub written-is-read-and-halvings : (ps : List Float) (ss : List ℕ) (m : Matrix
     → left (said (A.Wrote points starts halvings)) a d ≡ adaptiveLeft ps ss m width height step tolerance op os → points ≡ length ps / 3 + halvings
 unfolding adaptiveLeft
 written-is-read-and-halvings ps ss m width height step tolerance op os points starts halvings a d h =
-    let k = values-are _ _ _ op os _ a d h in
+    let k = was-accepted _ _ _ _ _ h in
     let n = counted-all ps ss m width height step tolerance (length op) (length os) (k .0) in
-    let e = k .1 in
+    let e = values-are _ _ op os _ a d (k .1) in
     let p : points ≡ length (joined (adapted (walksOf (viewOf m width height step tolerance) ps ss))) = cc in
     let q : halvings ≡ halvingsOf (walksOf (viewOf m width height step tolerance) ps ss) = cc in
     omega arith

@@ -7,11 +7,12 @@ use lib.Ieee.{Float}
 use Rattle.refusal.specs.Limits.{mostPoints}
 use Rattle.refusal.specs.Refusals.{unless}
 use Rattle.refusal.specs.Said.{Said, accepted, refused}
+use Rattle.refusal.specs.Outcome.{Outcome, outcome}
 use Rattle.refusal.specs.declared.Refusal.the-variants.{Shape, Count, Number}
 use Rattle.refusal.specs.declared.Verdict.{Verdict}
 use Rattle.vector.specs.declared.matrix.Matrix.{Matrix}
 use Rattle.path.specs.Tests.{shapedOf, countedOf, coordinatesGood, stepGood, sizeGood, toleranceGood}
-use Rattle.path.specs.Left.{Left, leftBy}
+use Rattle.path.specs.Call.{Lent, lent, laid}
 use Rattle.path_adaptive.specs.declared.Adapted.{Adapted}
 use Rattle.path_adaptive.specs.declared.Adapted.the-variants as A
 use Rattle.path_adaptive.specs.declared.Tally.the-variants as T
@@ -43,7 +44,7 @@ adaptiveVerdict ps ss m width height step tolerance room startRoom =
     (unless (numbersGood m width height step tolerance) Number
     (verdictOf (spentAll (T.Left (pointRoom room) startRoom) (walksOf (viewOf m width height step tolerance) ps ss))))))
 
-unfoldable pub adaptiveLeft : List Float → List ℕ → Matrix → Float → Float → Float → Float → List Float → List ℕ → Left
+unfoldable pub adaptiveLeft : List Float → List ℕ → Matrix → Float → Float → Float → Float → List Float → List ℕ → Outcome Lent
 adaptiveLeft ps ss m width height step tolerance op os =
     let ws = walksOf (viewOf m width height step tolerance) ps ss in
-    leftBy (adaptiveVerdict ps ss m width height step tolerance (length op) (length os)) (halvingsOf ws ∷ []) (adapted ws) op os
+    outcome (adaptiveVerdict ps ss m width height step tolerance (length op) (length os)) (lent op os) (laid (halvingsOf ws ∷ []) (adapted ws) op os)

@@ -7,7 +7,6 @@ use lib.Ieee.{Float, nan, binary64, ofBits}
 use Rattle.refusal.specs.Said.{accepted}
 use Rattle.vector.specs.declared.matrix.Matrix.{Matrix}
 use Rattle.vector.specs.Lengths.{zero64, one64}
-use Rattle.path.specs.Left.{Left}
 use Rattle.path_adaptive.specs.Call.{adaptiveLeft}
 
 -- the x of either end and a step, by their patterns, and how many points and halvings there are to be

@@ -19,7 +19,7 @@ use refusal::Verdict;
 use vector::Vector;
 use vector::matrix::Matrix;
 ghost use mathlib.Core.Path.{_≡_};
-ghost use Rattle.path.specs.Left.{left};
+ghost use Rattle.path.specs.Call.{left};
 ghost use Rattle.path.specs.Tests.{coordinatesGood};
 ghost use Rattle.path_adaptive.specs.Tally.{verdictOf};
 ghost use Rattle.path_adaptive.specs.Call.{said, entriesOf, numbersGood, pointRoom, adaptiveVerdict, adaptiveLeft};

@@ -8,13 +8,14 @@ use lib.Ieee.{Float}
 use Rattle.refusal.specs.Limits.{mostPoints}
 use Rattle.refusal.specs.Refusals.{unless}
 use Rattle.refusal.specs.Said.{Said, accepted, refused}
+use Rattle.refusal.specs.Outcome.{Outcome, outcome}
 use Rattle.refusal.specs.declared.Refusal.the-variants.{Shape, Count, Number, Room}
 use Rattle.refusal.specs.declared.Verdict.{Verdict}
 use Rattle.refusal.specs.declared.Verdict.the-variants.{Accepted}
 use Rattle.vector.specs.declared.Vector.{Vector}
 use Rattle.path.specs.Laid.{joined, nonEmpty}
 use Rattle.path.specs.Tests.{shapedOf, countedOf, coordinatesGood, stepGood}
-use Rattle.path.specs.Left.{Left, leftBy}
+use Rattle.path.specs.Call.{Lent, lent, laid}
 use Rattle.path_chop.specs.declared.Chopped.{Chopped}
 use Rattle.path_chop.specs.declared.Chopped.the-variants as C
 use Rattle.path_chop.specs.Chop.{choppedOf}
@@ -37,5 +38,5 @@ chopVerdict ps ss step room startRoom =
     (unless (roomFor (choppedOf step ps ss) room startRoom) Room
     Accepted))))
 
-unfoldable pub chopLeft : List Float → List ℕ → Float → List Float → List ℕ → Left
-chopLeft ps ss step op os = leftBy (chopVerdict ps ss step (length op) (length os)) [] (choppedOf step ps ss) op os
+unfoldable pub chopLeft : List Float → List ℕ → Float → List Float → List ℕ → Outcome Lent
+chopLeft ps ss step op os = outcome (chopVerdict ps ss step (length op) (length os)) (lent op os) (laid [] (choppedOf step ps ss) op os)

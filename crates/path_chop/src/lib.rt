@@ -27,7 +27,7 @@ ghost use Rattle.vector.specs.Lengths.{orNan, lengthOf};
 ghost use Rattle.vector.specs.Vectors.{subOf};
 ghost use Rattle.path.specs.Strokes.{pointAt, gather, strokesOf};
 ghost use Rattle.path.specs.Laid.{putPoints, pen, inked, out, push, pushAll, joined, nonEmpty};
-ghost use Rattle.path.specs.Left.{left};
+ghost use Rattle.path.specs.Call.{left};
 ghost use Rattle.path_chop.specs.Chop.{tooMany, along, stepsOf, reachOf, cut, span, spans, chopped, choppedOf, keptOf, capped};
 ghost use Rattle.path_chop.specs.Call.{said, roomFor, chopVerdict, chopLeft};
 

@@ -8,12 +8,13 @@ use lib.Ieee.{Float, le}
 use Rattle.refusal.specs.Limits.{mostToSimplify}
 use Rattle.refusal.specs.Refusals.{unless}
 use Rattle.refusal.specs.Said.{Said, accepted, refused}
+use Rattle.refusal.specs.Outcome.{Outcome, outcome}
 use Rattle.refusal.specs.declared.Refusal.the-variants.{Shape, Count, Number, Room}
 use Rattle.refusal.specs.declared.Verdict.{Verdict}
 use Rattle.refusal.specs.declared.Verdict.the-variants.{Accepted}
 use Rattle.vector.specs.Lengths.{zero64}
 use Rattle.path.specs.Tests.{shapedOf, countedOf, coordinatesGood}
-use Rattle.path.specs.Left.{Left, leftBy}
+use Rattle.path.specs.Call.{Lent, lent, laid}
 use Rattle.path_simplify.specs.declared.Simplified.{Simplified}
 use Rattle.path_simplify.specs.declared.Simplified.the-variants as S
 use Rattle.path_simplify.specs.Simplify.{simplified, distances, simplifiedOf}
@@ -46,6 +47,6 @@ simplifyVerdict ps ss t room startRoom =
     (unless (roomFor (length ps) (length ss) room startRoom) Room
     Accepted)))))
 
-unfoldable pub simplifyLeft : List Float → List ℕ → Float → List Float → List ℕ → Left
+unfoldable pub simplifyLeft : List Float → List ℕ → Float → List Float → List ℕ → Outcome Lent
 simplifyLeft ps ss t op os =
-    leftBy (simplifyVerdict ps ss t (length op) (length os)) (distances (simplifiedOf t ps ss) ∷ []) (simplified (simplifiedOf t ps ss)) op os
+    outcome (simplifyVerdict ps ss t (length op) (length os)) (lent op os) (laid (distances (simplifiedOf t ps ss) ∷ []) (simplified (simplifiedOf t ps ss)) op os)

@@ -22,7 +22,7 @@ ghost use lib.Ieee.{binary64, div, eq, lt};
 ghost use Rattle.refusal.specs.Limits.{mostPoints, mostToSimplify};
 ghost use Rattle.path.specs.Strokes.{pointAt, goodStarts};
 ghost use Rattle.path.specs.Laid.{putPoints, pen, inked, out, push, pushAll, joined};
-ghost use Rattle.path.specs.Left.{left};
+ghost use Rattle.path.specs.Call.{left};
 ghost use Rattle.path_simplify.specs.Simplify.{fartherOf, farthest, splitsAt, splitOf, thin, thinned, simplified, distances, simplifiedOf, placeOf};
 ghost use Rattle.vector.specs.Lengths.{zero64, one64, segmentDistanceOf};
 ghost use Rattle.path_simplify.specs.Squares.{segmentSquareOf, farOf, settledOf, Rising};

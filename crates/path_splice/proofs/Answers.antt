@@ -3,15 +3,13 @@
 use mathlib.Core.Path.{_≡_, refl, sym, ap, _∙_, subst}
 use mathlib.Core.Bool.{true, false}
 use mathlib.Core.List.{List, [], _∷_, _++_, append-assoc, map}
-use Prim.Native.Nat.{ℕ, suc, _+_, _-_, _*_, _/_, _%_, _≤_}
+use Prim.Native.Nat.{ℕ, _+_, _-_, _*_, _/_, _%_, _≤_}
 use native.Mathlib.Omega.{arith}
-use lib.ListN.{length, getD, drop, replicate, length-append}
+use lib.ListN.{length, getD, drop, length-append}
 use lib.Dec.{leb, eqb}
 use borrow.Author.Tests.{leb-true}
-use Rattle.refusal.specs.declared.Refusal.{Refusal}
-use Rattle.refusal.specs.declared.Verdict.{Verdict}
-use Rattle.refusal.specs.declared.Verdict.the-variants.{Accepted, Refused}
-use Rattle.refusal.specs.Said.{Said, accepted, refused}
+use Rattle.refusal.specs.declared.Verdict.the-variants.{Accepted}
+use Rattle.refusal.specs.Said.{Said, accepted}
 use Rattle.path.specs.Strokes.{goodStarts, numberAt, strokesIn}
 use Rattle.path.specs.Laid.{over, joined, startsFrom}
 use Rattle.path.specs.Tests.{countedOf}
@@ -19,9 +17,8 @@ use Rattle.path.proofs.Tests.{passed, both}
 use Rattle.path.proofs.Pushes.{length-starts, over-sets}
 use Rattle.path.proofs.Again.{strokes-count, table-all}
 use Rattle.path_splice.specs.Text.{part, mark, textOf, marksOf, ReadOut, Filled, LaidOut}
-use Rattle.path_splice.specs.Lent.{verdictOf, left, laid, leftBy}
+use Rattle.path_splice.specs.Call.{verdictOf, left, laid}
 use Rattle.order.specs.Regions.{region, put}
-use mathlib.Core.Bool.{_&&_}
 use mathlib.Core.Logic.{⊎-elim}
 use lib.ListN.{List·getD-eq-default, length-map, List·getD-map}
 use Rattle.path_ends.specs.Splice.{splice, isZero, present, valueAt, joinable, links, chainsOf, readFrom, added, readChain}
@@ -56,10 +53,6 @@ granted ps ss w r s h =
     let f = within-limits (length ps) (length ss) (b .0) in
     let g = both (leb (length ps) r) (leb (length ss) s) (e .0) in
     (a .0, f .0, f .1, leb-true _ _ (d .0), leb-true _ _ (g .0), leb-true _ _ (g .1))
-
-pub refuse : (v : Verdict) (r : Refusal) (ss : List (List ℕ)) (s op os : List ℕ) → v ≡ Refused r → left (refused r) s op os ≡ leftBy v ss s op os
-unfolding leftBy
-refuse v r ss s op os e = rw e
 
 -- what an order of marked chains reads
 part-even : (ss : List (List ℕ)) (e : ℕ) → part ss (e + e + 0) ≡ drop 1 (readFrom ss e)
@@ -212,8 +205,3 @@ same-left a b c d = cc
 pub wrote : (ss : List (List ℕ)) (s s′ op os op′ os′ : List ℕ) (p q : ℕ) → s′ ≡ s → LaidOut ss op os op′ os′ p q → left (accepted (p ∷ q ∷ [])) s′ op′ os′ ≡ laid ss s op os
 unfolding laid
 wrote ss s s′ op os op′ os′ p q e R = same-left (rw (R .many, R .strokes)) e (R .points) (R .starts)
-
-pub accept : (v : Verdict) (ss : List (List ℕ)) (s op os s′ op′ os′ : List ℕ) (p q : ℕ) → v ≡ Accepted → s′ ≡ replicate (length s) 0 → LaidOut ss op os op′ os′ p q
-    → left (accepted (p ∷ q ∷ [])) s′ op′ os′ ≡ leftBy v ss s op os
-unfolding leftBy
-accept v ss s op os s′ op′ os′ p q z y R = rw z (wrote ss (replicate (length s) 0) s′ op os op′ os′ p q y R)

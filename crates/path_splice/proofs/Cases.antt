@@ -6,11 +6,12 @@ use Prim.Native.Nat.{ℕ, _*_}
 use lib.ListN.{length, replicate}
 use Rattle.refusal.specs.Refusals.{unless}
 use Rattle.refusal.specs.Said.{accepted}
+use Rattle.refusal.specs.Outcome.{Outcome, outcome}
 use Rattle.path.specs.Strokes.{goodFrom, goodStarts, gather, strokesOf}
 use Rattle.path.specs.Laid.{over, joined, startsFrom}
 use Rattle.path.specs.Tests.{countedOf}
 use Rattle.path_ends.specs.Splice.{splice, links, linkFrom, linkEnd, tie, pick, onward, after, run, from, pass, atFree, atLast, chainsOf, lastOf, firstOf, present, endOf, turned, valueAt, joinable, readFrom, added, readChain}
-use Rattle.path_splice.specs.Lent.{verdictOf, Left, left, laid, leftBy, spliceLeft}
+use Rattle.path_splice.specs.Call.{verdictOf, Lent, left, laid, spliceLeft}
 
 -- points and starts
 pub record Case : Type 0 where
@@ -18,7 +19,7 @@ pub record Case : Type 0 where
   pub starts : List ℕ
 
 -- scratch and output as long as they must be, all 9
-abbrev pub called : Case → Left
+abbrev pub called : Case → Outcome Lent
 called c = spliceLeft (c .points) (c .starts) (replicate (8 * length (c .starts)) 9) (replicate (length (c .points)) 9) (replicate (length (c .starts)) 9)
 
 -- [1,2] [2,3] [2,4], and [7] [7]
@@ -28,5 +29,5 @@ paper = record { points = 1 ∷ 2 ∷ 2 ∷ 3 ∷ 2 ∷ 4 ∷ []; starts = 0 ∷
 -- give [1,2,4] [2,3], and [7]; scratch is zero, and what is past the written part stays
 pub cases : map called paper
     ≡ left (accepted (5 ∷ 2 ∷ [])) (replicate 24 0) (1 ∷ 2 ∷ 4 ∷ 2 ∷ 3 ∷ 9 ∷ []) (0 ∷ 3 ∷ 9 ∷ []) ∷ left (accepted (1 ∷ 1 ∷ [])) (replicate 16 0) (7 ∷ 9 ∷ []) (0 ∷ 9 ∷ []) ∷ []
-unfolding spliceLeft leftBy laid verdictOf countedOf unless goodStarts goodFrom gather strokesOf joined startsFrom over splice links linkFrom linkEnd tie pick onward after run from pass atFree atLast chainsOf lastOf firstOf present endOf turned valueAt joinable readFrom added readChain
+unfolding spliceLeft outcome laid verdictOf countedOf unless goodStarts goodFrom gather strokesOf joined startsFrom over splice links linkFrom linkEnd tie pick onward after run from pass atFree atLast chainsOf lastOf firstOf present endOf turned valueAt joinable readFrom added readChain
 cases = refl

@@ -1,3 +1,3 @@
 pub mod Text
-pub mod Lent
+pub mod Call
 pub mod Pairs

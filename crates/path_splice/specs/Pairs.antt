@@ -8,10 +8,11 @@ use lib.ListN.{length, getD, take, drop, replicate}
 use lib.Dec.{leb, eqb}
 use Rattle.refusal.specs.Limits.{mostStrokes}
 use Rattle.refusal.specs.Said.{accepted}
+use Rattle.refusal.specs.Outcome.{Outcome}
 use Rattle.path.specs.Laid.{over}
 use Rattle.path_ends.specs.Splice.{splice}
 use Rattle.path_splice.specs.Text.{LaidOut}
-use Rattle.path_splice.specs.Lent.{Left, left, laid}
+use Rattle.path_splice.specs.Call.{Lent, left, laid}
 
 -- each two points a stroke
 unfoldable pub pairsOf : List ℕ → List (List ℕ)
@@ -24,7 +25,7 @@ unfoldable pub fits : ℕ → ℕ → ℕ → ℕ → Bool
 fits n words room starts = leb n mostStrokes && leb (8 * n) words && leb (2 * n) room && leb n starts
 
 -- the strokes of the first 2 n words spliced and written, and the first 8 n words zero; nothing is changed where it does not fit
-unfoldable pub pairsLeft : List ℕ → ℕ → List ℕ → List ℕ → Left
+unfoldable pub pairsLeft : List ℕ → ℕ → List ℕ → List ℕ → Outcome Lent
 pairsLeft s n op os =
     cond (fits n (length s) (length op) (length os)) (laid (splice 0 eqb (pairsOf (take (2 * n) s))) (over s (replicate (8 * n) 0)) op os) (left (accepted (0 ∷ 0 ∷ [])) s op os)
 

@@ -21,7 +21,7 @@ ghost use Rattle.path.specs.Strokes.{goodStarts, strokesIn};
 ghost use Rattle.path_ends.specs.Splice.{valueAt, present, splice as spliceOf};
 ghost use Rattle.path_splice.specs.Text.{Spans, part, mark, textOf, marksOf, ReadOut, Filled, LaidOut};
 ghost use Rattle.path_splice.specs.Pairs.{Paired, Drawn, fits as fitsOf, pairsLeft};
-ghost use Rattle.path_splice.specs.Lent.{verdictOf, said, left, spliceLeft};
+ghost use Rattle.path_splice.specs.Call.{verdictOf, said, left, spliceLeft};
 ghost use Rattle.refusal.specs.Limits.{mostStrokes, mostPoints};
 
 // What a splice answers: how many points and starts were written, or why none were.

@@ -9,8 +9,8 @@ use Rattle.refusal.specs.One.{One}
 use Rattle.refusal.proofs.Unique.{one-read}
 use Rattle.vector.specs.declared.Vector.{Vector}
 use Rattle.ramikohy.specs.Points.{pointOf}
-use Rattle.ramikohy.specs.Status.{Left, left}
-use Rattle.ramikohy.specs.Calls.{Strokes, strokes, Splice, splice, Weld, weld, Draw, draw, Writing, writing, Reading, reading}
+use Rattle.ramikohy.specs.Status.{Valued, valued}
+use Rattle.ramikohy.specs.Calls.{Called, called}
 
 no : {A : Type 0} → ⊥ → A
 no = elim [ ]
@@ -36,31 +36,16 @@ pub one-point : (v : Vector) → One (List Float) (λ l. (length l ≡ 3) × (po
 one-point v l m p q = same-point l m (p .0) (q .0) (p .1 ∙ sym (q .1))
 
 -- normalize: a status and an array of three
-pub one-normalize : (x : Left Vector) → One (ℕ × List Float) (λ o. (length (o .1) ≡ 3) × (left (o .0) (pointOf (o .1)) ≡ x))
+pub one-normalize : (x : Valued Vector) → One (ℕ × List Float) (λ o. (length (o .1) ≡ 3) × (valued (o .0) (pointOf (o .1)) ≡ x))
 one-normalize x r t p q =
     let e = p .1 ∙ sym (q .1) in
-    let a = same-point (r .1) (t .1) (p .0) (q .0) (ap (λ (l : Left Vector). l .value) e) in
+    let a = same-point (r .1) (t .1) (p .0) (q .0) (ap (λ (l : Valued Vector). l .value) e) in
     λ i. (e i .status, a i)
 
 -- floor and sqrt: a status and a value
-pub one-value : {A : Type 0} (x : Left A) → One (ℕ × A) (λ o. left (o .0) (o .1) ≡ x)
-one-value = one-read (λ o. left (o .0) (o .1)) (λ r t e i. (e i .status, e i .value))
+pub one-value : {A : Type 0} (x : Valued A) → One (ℕ × A) (λ o. valued (o .0) (o .1) ≡ x)
+one-value = one-read (λ o. valued (o .0) (o .1)) (λ r t e i. (e i .status, e i .value))
 
--- chop, chop_adaptive, simplify, section
-pub one-strokes : (x : Strokes) → One (ℕ × List ℕ × List Float × List ℕ) (λ o. strokes (o .0) (o .1) (o .2) (o .3) ≡ x)
-one-strokes = one-read (λ o. strokes (o .0) (o .1) (o .2) (o .3)) (λ r t e i. (e i .status, e i .counts, e i .points, e i .starts))
-
-pub one-splice : (x : Splice) → One (ℕ × List ℕ × List ℕ × List ℕ × List ℕ) (λ o. splice (o .0) (o .1) (o .2) (o .3) (o .4) ≡ x)
-one-splice = one-read (λ o. splice (o .0) (o .1) (o .2) (o .3) (o .4)) (λ r t e i. (e i .status, e i .counts, e i .scratch, e i .points, e i .starts))
-
-pub one-weld : (x : Weld) → One (ℕ × List ℕ × List ℕ × List Float × List ℕ) (λ o. weld (o .0) (o .1) (o .2) (o .3) (o .4) ≡ x)
-one-weld = one-read (λ o. weld (o .0) (o .1) (o .2) (o .3) (o .4)) (λ r t e i. (e i .status, e i .counts, e i .scratch, e i .vertices, e i .indices))
-
-pub one-draw : (x : Draw) → One (ℕ × List ℕ × List ℕ × List Float × List ℕ × List ℕ) (λ o. draw (o .0) (o .1) (o .2) (o .3) (o .4) (o .5) ≡ x)
-one-draw = one-read (λ o. draw (o .0) (o .1) (o .2) (o .3) (o .4) (o .5)) (λ r t e i. (e i .status, e i .counts, e i .scratch, e i .seen, e i .points, e i .starts))
-
-pub one-writing : (x : Writing) → One (ℕ × List ℕ × List ℕ) (λ o. writing (o .0) (o .1) (o .2) ≡ x)
-one-writing = one-read (λ o. writing (o .0) (o .1) (o .2)) (λ r t e i. (e i .status, e i .counts, e i .bytes))
-
-pub one-reading : (x : Reading) → One (ℕ × List ℕ × List ℕ × List ℕ) (λ o. reading (o .0) (o .1) (o .2) (o .3) ≡ x)
-one-reading = one-read (λ o. reading (o .0) (o .1) (o .2) (o .3)) (λ r t e i. (e i .status, e i .counts, e i .numbers, e i .starts))
+-- every call on lent lists: a status, counts, and what is lent
+pub one-called : {L : Type 0} (x : Called L) → One (ℕ × List ℕ × L) (λ o. called (o .0) (o .1) (o .2) ≡ x)
+one-called = one-read (λ o. called (o .0) (o .1) (o .2)) (λ r t e i. (e i .status, e i .counts, e i .lent))

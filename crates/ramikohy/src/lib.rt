@@ -14,7 +14,7 @@ ghost use Rattle.vector.specs.Floor.{floorOf};
 ghost use Rattle.vector.specs.Root.{rootOf};
 ghost use Rattle.vector.specs.Abs.{absOf};
 ghost use Rattle.ramikohy.specs.Points.{pointOf, matrixOf};
-ghost use Rattle.ramikohy.specs.Status.{left, leftBy, leftByUnit};
+ghost use Rattle.ramikohy.specs.Status.{valued, valuedBy, valuedByUnit};
 
 pub mod meshes;
 pub mod reader;
@@ -66,7 +66,7 @@ fn put(v: Vector, out: &mut [f64; 3])
 // The greatest whole number not above x.
 #[no_mangle]
 pub extern "C" fn ramikohy_floor(x: f64, whole: &mut i64) -> u32
-    ensures { λ r. ⌜ left r (now (whole .exit)) ≡ leftBy (floorOf x) (now (whole .entry)) ⌝ }
+    ensures { λ r. ⌜ valued r (now (whole .exit)) ≡ valuedBy (floorOf x) (now (whole .entry)) ⌝ }
 {
     match vector::number::floor(x) {
         Whole::Of(z) => {
@@ -80,7 +80,7 @@ pub extern "C" fn ramikohy_floor(x: f64, whole: &mut i64) -> u32
 // The f64 nearest to the square root of x.
 #[no_mangle]
 pub extern "C" fn ramikohy_sqrt(x: f64, root: &mut f64) -> u32
-    ensures { λ r. ⌜ left r (now (root .exit)) ≡ leftBy (rootOf x) (now (root .entry)) ⌝ }
+    ensures { λ r. ⌜ valued r (now (root .exit)) ≡ valuedBy (rootOf x) (now (root .entry)) ⌝ }
 {
     match vector::number::sqrt(x) {
         Root::Of(y) => {
@@ -150,7 +150,7 @@ pub extern "C" fn ramikohy_cross(a: &[f64; 3], b: &[f64; 3], out: &mut [f64; 3])
 // a made one long. A computed length of 0 answers NONE and leaves `out` as it was.
 #[no_mangle]
 pub extern "C" fn ramikohy_normalize(a: &[f64; 3], out: &mut [f64; 3]) -> u32
-    ensures { λ r. ⌜ left r (pointOf (now (out .exit))) ≡ leftByUnit (unitOf (pointOf (now (a .entry)))) (pointOf (now (out .entry))) ⌝ }
+    ensures { λ r. ⌜ valued r (pointOf (now (out .exit))) ≡ valuedByUnit (unitOf (pointOf (now (a .entry)))) (pointOf (now (out .entry))) ⌝ }
 {
     match point(a).normalize() {
         Unit::Of(q) => {

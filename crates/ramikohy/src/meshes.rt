@@ -7,11 +7,13 @@ use mesh_section::Sectioned;
 use mesh_weld::Welded;
 ghost use mathlib.Core.Path.{_≡_};
 ghost use mathlib.Core.List.{[], _∷_};
-ghost use Rattle.mesh_weld.specs.Call.{weldLeft};
+ghost use Rattle.path.specs.Call.{lent};
+ghost use Rattle.mesh_weld.specs.Call.{lent as weldLent, weldLeft};
 ghost use Rattle.mesh_section.specs.Call.{sectionLeft};
+ghost use Rattle.mesh_strokes.specs.Call.{lent as drawLent};
 ghost use Rattle.mesh_draw.specs.Call.{drawLeft};
 ghost use Rattle.ramikohy.specs.Points.{pointOf};
-ghost use Rattle.ramikohy.specs.Calls.{strokes, strokesBy, weld, weldBy, draw, drawBy};
+ghost use Rattle.ramikohy.specs.Calls.{called, calledBy};
 
 // Welds the corners of faces.
 #[no_mangle]
@@ -23,8 +25,8 @@ pub extern "C" fn ramikohy_weld(
     vertex_count: &mut usize,
     index_count: &mut usize,
 ) -> u32
-    ensures { λ r. ⌜ weld r (now («vertex_count» .exit) ∷ now («index_count» .exit) ∷ []) (now (scratch .exit)) (now (vertices .exit)) (now (indices .exit))
-        ≡ weldBy (weldLeft (now (coords .entry)) (now (scratch .entry)) (now (vertices .entry)) (now (indices .entry)))
+    ensures { λ r. ⌜ called r (now («vertex_count» .exit) ∷ now («index_count» .exit) ∷ []) (weldLent (now (scratch .exit)) (now (vertices .exit)) (now (indices .exit)))
+        ≡ calledBy (weldLeft (now (coords .entry)) (now (scratch .entry)) (now (vertices .entry)) (now (indices .entry)))
         (now («vertex_count» .entry) ∷ now («index_count» .entry) ∷ []) ⌝ }
 {
     match mesh_weld::weld(coords, scratch, vertices, indices) {
@@ -53,8 +55,8 @@ pub extern "C" fn ramikohy_section(
     point_count: &mut usize,
     start_count: &mut usize,
 ) -> u32
-    ensures { λ r. ⌜ strokes r (now («point_count» .exit) ∷ now («start_count» .exit) ∷ []) (now («out_points» .exit)) (now («out_starts» .exit))
-        ≡ strokesBy
+    ensures { λ r. ⌜ called r (now («point_count» .exit) ∷ now («start_count» .exit) ∷ []) (lent (now («out_points» .exit)) (now («out_starts» .exit)))
+        ≡ calledBy
         (sectionLeft (now (vertices .entry)) (now (indices .entry)) (record { point = pointOf (now («plane_point» .entry)); normal = pointOf (now («plane_normal» .entry)) }) tolerance (now («out_points» .entry)) (now («out_starts» .entry)))
         (now («point_count» .entry) ∷ now («start_count» .entry) ∷ []) ⌝ }
 {
@@ -92,8 +94,8 @@ pub extern "C" fn ramikohy_draw(
     point_count: &mut usize,
     start_count: &mut usize,
 ) -> u32
-    ensures { λ r. ⌜ draw r (now («point_count» .exit) ∷ now («start_count» .exit) ∷ []) (now (scratch .exit)) (now (seen .exit)) (now («out_points» .exit)) (now («out_starts» .exit))
-        ≡ drawBy
+    ensures { λ r. ⌜ called r (now («point_count» .exit) ∷ now («start_count» .exit) ∷ []) (drawLent (now (scratch .exit)) (now (seen .exit)) (now («out_points» .exit)) (now («out_starts» .exit)))
+        ≡ calledBy
         (drawLeft (now (vertices .entry)) (now (indices .entry)) (now (flips .entry)) mode «cos_theta» (pointOf (now (eye .entry))) tolerance
         (now (scratch .entry)) (now (seen .entry)) (now («out_points» .entry)) (now («out_starts» .entry)))
         (now («point_count» .entry) ∷ now («start_count» .entry) ∷ []) ⌝ }

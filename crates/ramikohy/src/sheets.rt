@@ -4,9 +4,9 @@ use sheet_read::SheetRead;
 use sheet_write::SheetWritten;
 ghost use mathlib.Core.Path.{_≡_};
 ghost use mathlib.Core.List.{[], _∷_};
-ghost use Rattle.sheet_write.specs.Write.{writeLeft};
-ghost use Rattle.sheet_read.specs.Read.{readLeft};
-ghost use Rattle.ramikohy.specs.Calls.{writing, writingBy, reading, readingBy};
+ghost use Rattle.sheet_write.specs.Call.{lent as writeLent, writeLeft};
+ghost use Rattle.sheet_read.specs.Call.{lent as readLent, readLeft};
+ghost use Rattle.ramikohy.specs.Calls.{called, calledBy};
 
 // Writes strokes of vertex numbers as a sheet.
 #[no_mangle]
@@ -18,8 +18,8 @@ pub extern "C" fn ramikohy_write_sheet(
     out: &mut [u8],
     byte_count: &mut usize,
 ) -> u32
-    ensures { λ r. ⌜ writing r (now («byte_count» .exit) ∷ []) (now (out .exit))
-        ≡ writingBy (writeLeft mode vertices (now (numbers .entry)) (now (starts .entry)) (now (out .entry))) (now («byte_count» .entry) ∷ []) ⌝ }
+    ensures { λ r. ⌜ called r (now («byte_count» .exit) ∷ []) (writeLent (now (out .exit)))
+        ≡ calledBy (writeLeft mode vertices (now (numbers .entry)) (now (starts .entry)) (now (out .entry))) (now («byte_count» .entry) ∷ []) ⌝ }
 {
     match sheet_write::write_sheet(mode, vertices, numbers, starts, out) {
         SheetWritten::Wrote { bytes: n } => {
@@ -41,8 +41,8 @@ pub extern "C" fn ramikohy_read_sheet(
     mode: &mut u32,
     vertices: &mut u32,
 ) -> u32
-    ensures { λ r. ⌜ reading r (now («point_count» .exit) ∷ now («start_count» .exit) ∷ now (mode .exit) ∷ now (vertices .exit) ∷ []) (now («out_numbers» .exit)) (now («out_starts» .exit))
-        ≡ readingBy (readLeft (now (bytes .entry)) (now («out_numbers» .entry)) (now («out_starts» .entry)))
+    ensures { λ r. ⌜ called r (now («point_count» .exit) ∷ now («start_count» .exit) ∷ now (mode .exit) ∷ now (vertices .exit) ∷ []) (readLent (now («out_numbers» .exit)) (now («out_starts» .exit)))
+        ≡ calledBy (readLeft (now (bytes .entry)) (now («out_numbers» .entry)) (now («out_starts» .entry)))
         (now («point_count» .entry) ∷ now («start_count» .entry) ∷ now (mode .entry) ∷ now (vertices .entry) ∷ []) ⌝ }
 {
     match sheet_read::read_sheet(bytes, out_numbers, out_starts) {

@@ -6,12 +6,13 @@ use path_simplify::Simplified;
 use path_splice::Spliced;
 ghost use mathlib.Core.Path.{_≡_};
 ghost use mathlib.Core.List.{[], _∷_};
+ghost use Rattle.path.specs.Call.{lent};
 ghost use Rattle.path_adaptive.specs.Call.{adaptiveLeft};
 ghost use Rattle.path_chop.specs.Call.{chopLeft};
 ghost use Rattle.path_simplify.specs.Call.{simplifyLeft};
-ghost use Rattle.path_splice.specs.Lent.{spliceLeft};
+ghost use Rattle.path_splice.specs.Call.{lent as spliceLent, spliceLeft};
 ghost use Rattle.ramikohy.specs.Points.{matrixOf};
-ghost use Rattle.ramikohy.specs.Calls.{strokes, strokesBy, splice, spliceBy};
+ghost use Rattle.ramikohy.specs.Calls.{called, calledBy};
 
 // Cuts strokes into steps.
 #[no_mangle]
@@ -24,8 +25,8 @@ pub extern "C" fn ramikohy_chop(
     point_count: &mut usize,
     start_count: &mut usize,
 ) -> u32
-    ensures { λ r. ⌜ strokes r (now («point_count» .exit) ∷ now («start_count» .exit) ∷ []) (now («out_points» .exit)) (now («out_starts» .exit))
-        ≡ strokesBy (chopLeft (now (points .entry)) (now (starts .entry)) step (now («out_points» .entry)) (now («out_starts» .entry)))
+    ensures { λ r. ⌜ called r (now («point_count» .exit) ∷ now («start_count» .exit) ∷ []) (lent (now («out_points» .exit)) (now («out_starts» .exit)))
+        ≡ calledBy (chopLeft (now (points .entry)) (now (starts .entry)) step (now («out_points» .entry)) (now («out_starts» .entry)))
         (now («point_count» .entry) ∷ now («start_count» .entry) ∷ []) ⌝ }
 {
     match path_chop::chop(points, starts, step, out_points, out_starts) {
@@ -52,8 +53,8 @@ pub extern "C" fn ramikohy_splice(
     point_count: &mut usize,
     start_count: &mut usize,
 ) -> u32
-    ensures { λ r. ⌜ splice r (now («point_count» .exit) ∷ now («start_count» .exit) ∷ []) (now (scratch .exit)) (now («out_points» .exit)) (now («out_starts» .exit))
-        ≡ spliceBy (spliceLeft (now (points .entry)) (now (starts .entry)) (now (scratch .entry)) (now («out_points» .entry)) (now («out_starts» .entry)))
+    ensures { λ r. ⌜ called r (now («point_count» .exit) ∷ now («start_count» .exit) ∷ []) (spliceLent (now (scratch .exit)) (now («out_points» .exit)) (now («out_starts» .exit)))
+        ≡ calledBy (spliceLeft (now (points .entry)) (now (starts .entry)) (now (scratch .entry)) (now («out_points» .entry)) (now («out_starts» .entry)))
         (now («point_count» .entry) ∷ now («start_count» .entry) ∷ []) ⌝ }
 {
     match path_splice::splice(points, starts, scratch, out_points, out_starts) {
@@ -85,8 +86,8 @@ pub extern "C" fn ramikohy_chop_adaptive(
     start_count: &mut usize,
     halving_count: &mut usize,
 ) -> u32
-    ensures { λ r. ⌜ strokes r (now («point_count» .exit) ∷ now («start_count» .exit) ∷ now («halving_count» .exit) ∷ []) (now («out_points» .exit)) (now («out_starts» .exit))
-        ≡ strokesBy (adaptiveLeft (now (points .entry)) (now (starts .entry)) (matrixOf (now (matrix .entry))) width height step tolerance (now («out_points» .entry)) (now («out_starts» .entry)))
+    ensures { λ r. ⌜ called r (now («point_count» .exit) ∷ now («start_count» .exit) ∷ now («halving_count» .exit) ∷ []) (lent (now («out_points» .exit)) (now («out_starts» .exit)))
+        ≡ calledBy (adaptiveLeft (now (points .entry)) (now (starts .entry)) (matrixOf (now (matrix .entry))) width height step tolerance (now («out_points» .entry)) (now («out_starts» .entry)))
         (now («point_count» .entry) ∷ now («start_count» .entry) ∷ now («halving_count» .entry) ∷ []) ⌝ }
 {
     match path_adaptive::chop_adaptive(
@@ -126,8 +127,8 @@ pub extern "C" fn ramikohy_simplify(
     start_count: &mut usize,
     distance_count: &mut usize,
 ) -> u32
-    ensures { λ r. ⌜ strokes r (now («point_count» .exit) ∷ now («start_count» .exit) ∷ now («distance_count» .exit) ∷ []) (now («out_points» .exit)) (now («out_starts» .exit))
-        ≡ strokesBy (simplifyLeft (now (points .entry)) (now (starts .entry)) threshold (now («out_points» .entry)) (now («out_starts» .entry)))
+    ensures { λ r. ⌜ called r (now («point_count» .exit) ∷ now («start_count» .exit) ∷ now («distance_count» .exit) ∷ []) (lent (now («out_points» .exit)) (now («out_starts» .exit)))
+        ≡ calledBy (simplifyLeft (now (points .entry)) (now (starts .entry)) threshold (now («out_points» .entry)) (now («out_starts» .entry)))
         (now («point_count» .entry) ∷ now («start_count» .entry) ∷ now («distance_count» .entry) ∷ []) ⌝ }
 {
     match path_simplify::simplify(points, starts, threshold, out_points, out_starts) {

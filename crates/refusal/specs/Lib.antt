@@ -1,5 +1,6 @@
 pub mod Refusals
 pub mod Said
+pub mod Outcome
 pub mod Limits
 pub mod One
 pub mod Each

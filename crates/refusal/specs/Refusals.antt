@@ -1,5 +1,6 @@
 -- The table of refusals: each number is given exactly when its line says, and the lowest that applies.
 use mathlib.Core.Bool.{Bool, true, false}
+use mathlib.Core.List.{List, []}
 use Prim.Native.Nat.{ℕ}
 use Rattle.refusal.specs.declared.Refusal.{Refusal}
 use Rattle.refusal.specs.declared.Refusal.the-variants.{Shape, Count, Vertex, Number, Scratch, Room, Flat, Deep, Sheet}
@@ -16,6 +17,10 @@ numberOf Room = 6  -- output too short, or a cut of too many points
 numberOf Flat = 7  -- a face whose normal has computed length 0
 numberOf Deep = 8  -- a span halved too often
 numberOf Sheet = 9  -- bytes that are not a sheet
+
+-- what a refusal carries beside its number: nothing
+abbrev pub carriedBy : Refusal → List ℕ
+carriedBy r = []
 
 -- a test that must hold, and the refusal where it does not, before the tests that follow
 unfoldable pub unless : Bool → Refusal → Verdict → Verdict

@@ -1,4 +1,4 @@
--- The call as a whole: what its tests grant, and its two returns. Assumes nothing.
+-- The call as a whole: what its tests grant, and what it then leaves. Assumes nothing.
 use mathlib.Core.Path.{_≡_, _∙_}
 use mathlib.Core.Bool.{true, _&&_}
 use mathlib.Core.List.{List, [], _∷_}
@@ -9,10 +9,8 @@ use lib.Seq.{sets}
 use lib.Dec.{leb}
 use borrow.Author.Tests.{leb-true}
 use Rattle.refusal.specs.Limits.{mostStrokes, mostPoints}
-use Rattle.refusal.specs.Said.{accepted, refused}
-use Rattle.refusal.specs.declared.Refusal.{Refusal}
-use Rattle.refusal.specs.declared.Verdict.{Verdict}
-use Rattle.refusal.specs.declared.Verdict.the-variants.{Accepted, Refused}
+use Rattle.refusal.specs.Said.{accepted}
+use Rattle.refusal.specs.declared.Verdict.the-variants.{Accepted}
 use Rattle.path.specs.Strokes.{gather}
 use Rattle.path.specs.Laid.{over}
 use Rattle.path.proofs.Tests.{passed, both}
@@ -20,7 +18,7 @@ use Rattle.path.proofs.Pushes.{over-sets}
 use Rattle.path.proofs.Gathers.{length-gather}
 use Rattle.mesh.specs.Meshes.{allBelow}
 use Rattle.sheet.specs.Sheets.{headerWords, numbersFrom, wordAt, modeIn, verticesIn, strokeCount, pointCount, startsIn, numbersIn, modeGood, countsGood, placesGood, tableGood, headerGood, isSheet}
-use Rattle.sheet_read.specs.Read.{roomFor, verdictOf, left, leftBy}
+use Rattle.sheet_read.specs.Call.{roomFor, verdictOf, left, laid}
 use Rattle.sheet.proofs.Sizes.{limits}
 
 pub header-limits : (bs : List ℕ) → headerGood bs ≡ true → (strokeCount bs ≤ mostStrokes) × (pointCount bs ≤ mostPoints)
@@ -56,19 +54,15 @@ granted bs room startRoom h =
     let few = header-limits bs (both (headerGood bs) (tableGood (pointCount bs) (startsIn bs)) (b .0) .0) in
     record { strokes = few .0; points = few .1; room-points = leb-true _ _ (fit .0); room-starts = leb-true _ _ (fit .1) }
 
-module _ (v : Verdict) (bs on os : List ℕ) where
-  pub refuse : (r : Refusal) → Refused r ≡ v → left (refused r) on os ≡ leftBy v bs on os
-  unfolding leftBy
-  refuse r e = rw (← e)
-
-  pub accept : v ≡ Accepted → pointCount bs ≤ length on → strokeCount bs ≤ length os → (m n s p k : ℕ) → m ≡ modeIn bs → n ≡ verticesIn bs → s ≡ strokeCount bs → p ≡ pointCount bs → k ≡ numbersFrom s
+module _ (bs on os : List ℕ) where
+  pub all-read : pointCount bs ≤ length on → strokeCount bs ≤ length os → (m n s p k : ℕ) → m ≡ modeIn bs → n ≡ verticesIn bs → s ≡ strokeCount bs → p ≡ pointCount bs → k ≡ numbersFrom s
       → (on′ os′ : List ℕ) → on′ ≡ sets on 0 (gather (wordAt bs) k p) → os′ ≡ sets os 0 (gather (wordAt bs) headerWords s)
-      → left (accepted (p ∷ s ∷ m ∷ n ∷ [])) on′ os′ ≡ leftBy v bs on os
-  unfolding leftBy numbersIn startsIn
-  accept z hp hs m n s p k em en es ep ek on′ os′ e f =
+      → left (accepted (p ∷ s ∷ m ∷ n ∷ [])) on′ os′ ≡ laid bs on os
+  unfolding laid numbersIn startsIn
+  all-read hp hs m n s p k em en es ep ek on′ os′ e f =
       let a : on′ ≡ over on (gather (wordAt bs) (numbersFrom (strokeCount bs)) (pointCount bs)) = rw (ek, es, ep) at e ∙ over-sets on (gather (wordAt bs) (numbersFrom (strokeCount bs)) (pointCount bs)) (omega (arith, length-gather (wordAt bs) (numbersFrom (strokeCount bs)) (pointCount bs))) in
       let b : os′ ≡ over os (gather (wordAt bs) headerWords (strokeCount bs)) = rw es at f ∙ over-sets os (gather (wordAt bs) headerWords (strokeCount bs)) (omega (arith, length-gather (wordAt bs) headerWords (strokeCount bs))) in
-      rw z (same-left em en es ep a b)
+      same-left em en es ep a b
     where
       same-left : {m m₁ n n₁ s s₁ p p₁ : ℕ} {x x₁ y y₁ : List ℕ} → m ≡ m₁ → n ≡ n₁ → s ≡ s₁ → p ≡ p₁ → x ≡ x₁ → y ≡ y₁ → left (accepted (p ∷ s ∷ m ∷ n ∷ [])) x y ≡ left (accepted (p₁ ∷ s₁ ∷ m₁ ∷ n₁ ∷ [])) x₁ y₁
       same-left a b d e f g = cc

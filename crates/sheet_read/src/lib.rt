@@ -20,7 +20,7 @@ ghost use Rattle.refusal.specs.Limits.{mostStrokes, mostPoints};
 ghost use Rattle.path.specs.Strokes.{gather};
 ghost use Rattle.mesh.specs.Meshes.{allBelow};
 ghost use Rattle.sheet.specs.Sheets.{headerWords, wordAt, placesGood, strictFrom, tableGood, headerGood, isSheet};
-ghost use Rattle.sheet_read.specs.Read.{roomFor, verdictOf, said, left, readLeft};
+ghost use Rattle.sheet_read.specs.Call.{roomFor, verdictOf, said, left, readLeft};
 
 // What reading a sheet answers: its mode and vertices, and how many points and starts were written; or why none were.
 pub enum SheetRead {

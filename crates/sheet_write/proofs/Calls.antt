@@ -1,4 +1,4 @@
--- The call as a whole: what its tests grant, what the parts come to, and its two returns. Assumes nothing.
+-- The call as a whole: what its tests grant, what the parts come to, and what it leaves. Assumes nothing.
 use mathlib.Core.Path.{_≡_, sym, ap, _∙_}
 use mathlib.Core.Bool.{true}
 use mathlib.Core.List.{List, [], _∷_, _++_}
@@ -9,10 +9,8 @@ use lib.Seq.{sets}
 use lib.Dec.{leb}
 use borrow.Author.Tests.{leb-true}
 use Rattle.refusal.specs.Limits.{mostStrokes, mostPoints}
-use Rattle.refusal.specs.Said.{accepted, refused}
-use Rattle.refusal.specs.declared.Refusal.{Refusal}
-use Rattle.refusal.specs.declared.Verdict.{Verdict}
-use Rattle.refusal.specs.declared.Verdict.the-variants.{Accepted, Refused}
+use Rattle.refusal.specs.Said.{accepted}
+use Rattle.refusal.specs.declared.Verdict.the-variants.{Accepted}
 use Rattle.path.specs.Strokes.{goodStarts, numberAt, strokesIn}
 use Rattle.path.specs.Laid.{over, nonEmpty}
 use Rattle.path.proofs.Tests.{passed}
@@ -23,7 +21,7 @@ use Rattle.sheet.proofs.Words.{put-more}
 use Rattle.path.proofs.Again.{joined-all}
 use Rattle.sheet.proofs.Tables.{kept-all, kept-count}
 use Rattle.sheet.proofs.Sizes.{limits}
-use Rattle.sheet_write.specs.Write.{verdictOf, left, leftBy}
+use Rattle.sheet_write.specs.Call.{verdictOf, left, laid}
 
 -- how many strokes have points, as the definition counts them and as the code does
 pub same-size : (ns ss : List ℕ) (room : ℕ) → goodStarts (length ns) ss ≡ true
@@ -61,14 +59,9 @@ pub sheet-is : (m v : ℕ) (ns ss : List ℕ) → goodStarts (length ns) ss ≡ 
 unfolding sheetOf
 sheet-is m v ns ss g = rw (kept-all (numberAt ns) (length ns) ss g, joined-all ns ss g)
 
-module _ (v : Verdict) (sheet out : List ℕ) where
-  pub refuse : (r : Refusal) → Refused r ≡ v → left (refused r) out ≡ leftBy v sheet out
-  unfolding leftBy
-  refuse r e = rw (← e)
-
-  pub accept : v ≡ Accepted → (out′ written : List ℕ) (n : ℕ) → written ≡ sheet → out′ ≡ sets out 0 written → n ≡ length written → n ≤ length out → left (accepted (n ∷ [])) out′ ≡ leftBy v sheet out
-  unfolding leftBy
-  accept z out′ written n s e q h =
-      let a : out′ ≡ over out sheet = e ∙ ap (sets out 0) s ∙ over-sets out sheet (omega (arith, ap length s)) in
-      let b : n ≡ length sheet = q ∙ ap length s in
-      rw (z, a, b)
+pub all-written : (sheet out out′ written : List ℕ) (n : ℕ) → written ≡ sheet → out′ ≡ sets out 0 written → n ≡ length written → n ≤ length out → left (accepted (n ∷ [])) out′ ≡ laid sheet out
+unfolding laid
+all-written sheet out out′ written n s e q h =
+    let a : out′ ≡ over out sheet = e ∙ ap (sets out 0) s ∙ over-sets out sheet (omega (arith, ap length s)) in
+    let b : n ≡ length sheet = q ∙ ap length s in
+    rw (a, b)

@@ -2,13 +2,14 @@
 use mathlib.Core.Path.{refl}
 use Rattle.refusal.specs.Each.{Each}
 use Rattle.refusal.specs.Refusals.{unless}
+use Rattle.refusal.specs.Outcome.{outcome}
 use Rattle.path.specs.Strokes.{goodFrom, goodStarts, gather, strokesOf}
 use Rattle.path.specs.Laid.{over, nonEmpty, joined, startsFrom}
 use Rattle.mesh.specs.Meshes.{allBelow}
 use Rattle.sheet.specs.Sheets.{bytesOf, bytesAll, headerOf, sheetOf, modeGood, modeWord, countsGood}
-use Rattle.sheet_write.specs.Write.{verdictOf, leftBy, writeLeft}
+use Rattle.sheet_write.specs.Call.{verdictOf, laid, writeLeft}
 use Rattle.sheet_write.specs.Cases.{Holds, paper}
 
 pub cases : Each Holds paper
-unfolding paper writeLeft leftBy verdictOf unless countsGood modeWord modeGood goodStarts goodFrom allBelow gather strokesOf over nonEmpty joined startsFrom bytesOf bytesAll headerOf sheetOf
+unfolding paper writeLeft outcome laid verdictOf unless countsGood modeWord modeGood goodStarts goodFrom allBelow gather strokesOf over nonEmpty joined startsFrom bytesOf bytesAll headerOf sheetOf
 cases = (refl, (refl, (refl, tt)))

@@ -5,8 +5,7 @@ use mathlib.Core.List.{List}
 use Prim.Native.Nat.{ℕ, _≤_}
 use native.Mathlib.Omega.{arith}
 use lib.ListN.{length}
-use lib.Dec.{leb, ltb}
-use borrow.Author.Tests.{ltb-true, le-leb}
+use borrow.Author.Tests.{le-leb}
 use Rattle.refusal.specs.Limits.{mostVertices, mostStrokes, mostPoints}
 use Rattle.refusal.specs.declared.Verdict.the-variants.{Accepted}
 use Rattle.path.specs.Strokes.{numberAt, strokesIn}
@@ -19,7 +18,7 @@ use Rattle.sheet.specs.Sheets.{modeWord, sheetOf, modeGood, countsGood, startsI
 use Rattle.sheet.proofs.Sizes.{limits}
 use Rattle.path.proofs.Again.{joined-all, strokes-count}
 use Rattle.sheet.proofs.Back.{Readable, sheet-back, read-back}
-use Rattle.sheet_write.specs.Write.{verdictOf}
+use Rattle.sheet_write.specs.Call.{verdictOf}
 use Rattle.sheet_write.proofs.Calls.{granted}
 
 module _ (mode vertices : ℕ) (ns ss : List ℕ) (room : ℕ) (h : verdictOf mode vertices ns ss room ≡ Accepted) where

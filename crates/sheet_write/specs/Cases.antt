@@ -4,7 +4,7 @@ use mathlib.Core.List.{List, [], _∷_}
 use Prim.Native.Nat.{ℕ}
 use lib.ListN.{length, replicate}
 use Rattle.refusal.specs.Said.{accepted}
-use Rattle.sheet_write.specs.Write.{left, writeLeft}
+use Rattle.sheet_write.specs.Call.{left, writeLeft}
 
 -- mode, vertices, numbers and starts, and the bytes that there are to be
 pub data Case : Type 0 where

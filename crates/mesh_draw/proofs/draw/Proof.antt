@@ -1,7 +1,9 @@
 -- `draw` meets its contract.
 use borrow.Author.Needs.{needs}
 use mathlib.Core.Path.{sym, _∙_}
-use Rattle.mesh_draw.proofs.Draws.{accept, refuse}
+use Rattle.refusal.proofs.Outcomes.{accept, refuse}
+use Rattle.mesh_draw.specs.Call.{drawLeft}
+use Rattle.mesh_draw.proofs.Draws.{granted, drawn}
 use Rattle.mesh_draw.proofs.draw.Statement.{statement}
 use Rattle.mesh_draw.proofs.draw.Tie as tie
 
@@ -21,9 +23,8 @@ draw-strokes-requires : tie.Need-draw-strokes-requires
 draw-strokes-requires c κs = search needs
 
 returns : tie.Need-returns
-returns c =
-    let a = c .before .before .before .before .before .before .before .before .before .before .before .args in
-    refuse (a .vertices .now) (a .indices .now) (a .flips .now) (a .number) (a .cos-theta) (a .eye) (a .tolerance) (a .scratch .now) (a .seen .now) (a .out-points .now) (a .out-starts .now) _ (sym (c .before .before .before .draw-verdict .ensures) ∙ c .before .v .given .1)
+unfolding drawLeft
+returns c = refuse _ _ _ _ (sym (c .before .v .given .1) ∙ c .before .before .before .draw-verdict .ensures)
 
 same-length : tie.Need-same-length
 same-length c = search needs
@@ -38,9 +39,14 @@ same-length-4 : tie.Need-same-length-4
 same-length-4 c = search needs
 
 returns-2 : tie.Need-returns-2
+unfolding drawLeft
 returns-2 c =
     let a = c .before .before .before .before .before .before .before .before .before .before .before .before .before .before .before .before .before .before .before .before .before .before .before .before .args in
-    accept (a .vertices .now) (a .indices .now) (a .flips .now) (a .number) (a .cos-theta) (a .eye) (a .tolerance) (a .scratch .now) (a .seen .now) (a .out-points .now) (a .out-starts .now) _ _ (c .before .before .before .before .before .before .before .before .before .before .before .before .before .mode-named .ensures) (sym (c .before .before .before .before .before .before .before .before .before .before .before .before .before .before .before .before .draw-verdict .ensures) ∙ c .before .before .before .before .before .before .before .before .before .before .before .before .before .before .enum-told .given .1) (c .before .before .before .before .before .before .before .before .draw-strokes .ensures)
+    let z = sym (c .before .before .before .before .before .before .before .before .before .before .before .before .before .before .before .before .draw-verdict .ensures) ∙ c .before .before .before .before .before .before .before .before .before .before .before .before .before .before .enum-told .given .1 in
+    accept _ _ _ z
+    (c .before .before .before .before .before .before .before .before .draw-strokes .ensures
+    ∙ drawn (a .vertices .now) (a .indices .now) (a .flips .now) _ _ (a .eye) (a .tolerance) (a .scratch .now) (a .seen .now) (a .out-points .now) (a .out-starts .now) (c .before .before .before .before .before .before .before .before .before .before .before .before .before .mode-named .ensures)
+    (granted (a .vertices .now) (a .indices .now) _ _ _ _ _ _ _ _ _ z))
 
 pub draw-spec : {M : Type 1} → statement M
 draw-spec =

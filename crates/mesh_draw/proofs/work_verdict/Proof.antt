@@ -1,11 +1,10 @@
 -- `work_verdict` meets its contract.
 use borrow.Author.Needs.{needs}
 use mathlib.Core.Path.{sym, ap, _∙_}
-use mathlib.Core.Bool.{Bool}
 use borrow.Author.Tests.{not-true, not-false}
 use Rattle.refusal.specs.Refusals.{unless}
 use Rattle.mesh_mode.specs.declared.Mode.{Mode}
-use Rattle.mesh_draw.specs.Call.{flatIn, workVerdict}
+use Rattle.mesh_draw.specs.Call.{flatIn, flatVerdict, workVerdict}
 use Rattle.mesh_draw.proofs.work_verdict.Statement.{statement}
 use Rattle.mesh_draw.proofs.work_verdict.Tie as tie
 
@@ -37,14 +36,14 @@ flat-in-requires : tie.Need-flat-in-requires
 flat-in-requires c κs = search needs
 
 returns-4 : tie.Need-returns-4
-unfolding workVerdict unless
+unfolding workVerdict flatVerdict unless
 returns-4 c =
     let a = c .before .before .before .before .before .before .before .before .before .before .before .args in
     let e = sym (c .before .flat-in .ensures ∙ ap (λ (m : Mode). flatIn m (a .vertices .now) (a .indices .now)) (c .before .before .mode-named .ensures)) ∙ c .if4 .taken in
     simp (sym (c .before .before .before .before .before .before .before .before .numbers-good .ensures) ∙ not-false _ (c .before .before .before .before .before .before .before .if1 .left), sym (c .before .before .before .before .before .before .scratch-for .ensures) ∙ not-false _ (c .before .before .before .before .before .if2 .left), sym (c .before .before .before .before .room-for .ensures) ∙ not-false _ (c .before .before .before .if3 .left), e)
 
 returns-5 : tie.Need-returns-5
-unfolding workVerdict unless
+unfolding workVerdict flatVerdict unless
 returns-5 c =
     let a = c .before .before .before .before .before .before .before .before .before .before .before .args in
     let e = sym (c .before .flat-in .ensures ∙ ap (λ (m : Mode). flatIn m (a .vertices .now) (a .indices .now)) (c .before .before .mode-named .ensures)) ∙ c .if4 .left in

@@ -1,8 +1,8 @@
 -- `section` meets its contract: a refusal leaves all as it was, and an accepted call writes the strokes of all faces.
-use mathlib.Core.Path.{_≡_, sym, _∙_}
+use mathlib.Core.Path.{sym, _∙_}
 use native.Mathlib.Omega.{arith}
-use lib.ListN.{length}
-use Rattle.path.proofs.Lefts.{accept, refuse}
+use Rattle.refusal.proofs.Outcomes.{accept, refuse}
+use Rattle.path.proofs.Calls.{wrote-all}
 use Rattle.mesh.specs.Meshes.{faceAt}
 use Rattle.mesh_section.specs.Section.{sectionOf}
 use Rattle.mesh_section.specs.Call.{sectionLeft}
@@ -32,7 +32,7 @@ write-faces-requires c κs =
 
 returns : tie.Need-returns
 unfolding sectionLeft
-returns c = refuse _ _ _ _ _ _ (sym (c .before .v .given .1) ∙ c .before .before .before .section-verdict .ensures)
+returns c = refuse _ _ _ _ (sym (c .before .v .given .1) ∙ c .before .before .before .section-verdict .ensures)
 
 same-length : tie.Need-same-length
 same-length c = search needs
@@ -47,7 +47,7 @@ returns-2 c =
     let z = sym (c .before .before .before .before .before .before .before .before .before .section-verdict .ensures) ∙ c .before .before .before .before .before .before .before .enum-told .given .1 in
     let h = fitting (a .vertices .now) (a .indices .now) (a .plane) (a .tolerance) _ _ z in
     let f = faces-fit (faceAt (a .vertices .now) (a .indices .now)) (a .plane) (a .tolerance) _ _ _ (h .1) (h .2) in
-    accept _ _ _ (a .out-points .now) (a .out-starts .now) _ z (c .before .before .before .before .write-faces .ensures) (f .0) (f .1)
+    accept _ _ _ z (wrote-all _ _ (a .out-points .now) (a .out-starts .now) _ (c .before .before .before .before .write-faces .ensures) (f .0) (f .1))
 
 pub section-spec : {M : Type 1} → statement M
 section-spec =

@@ -1,11 +1,10 @@
 -- `fits` meets its contract.
 use borrow.Author.Needs.{needs}
-use native.Mathlib.Omega.{arith}
 use mathlib.Core.Path.{sym, _∙_}
 use Prim.Native.Nat.{_/_, _%_}
 use borrow.Author.Tests.{not-true, not-false, le-leb, lt-leb, eq-eqb, ne-eqb}
 use Rattle.refusal.specs.Limits.{mostFaces}
-use Rattle.mesh_strokes.specs.Strokes.{fits}
+use Rattle.mesh_strokes.specs.Call.{fits}
 use Rattle.mesh_strokes.proofs.fits.Statement.{statement}
 use Rattle.mesh_strokes.proofs.fits.Tie as tie
 

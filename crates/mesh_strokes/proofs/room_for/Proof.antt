@@ -2,7 +2,7 @@
 use Prim.Native.Nat.{_*_}
 use native.Mathlib.Omega.{arith}
 use borrow.Author.Tests.{le-leb, lt-leb}
-use Rattle.mesh_strokes.specs.Strokes.{roomFor}
+use Rattle.mesh_strokes.specs.Call.{roomFor}
 use Rattle.mesh_strokes.proofs.Tests.{third}
 use Rattle.mesh_strokes.proofs.room_for.Statement.{statement}
 use Rattle.mesh_strokes.proofs.room_for.Tie as tie

@@ -2,7 +2,7 @@
 use Prim.Native.Nat.{_*_}
 use native.Mathlib.Omega.{arith}
 use borrow.Author.Tests.{le-leb, lt-leb}
-use Rattle.mesh_strokes.specs.Strokes.{scratchFor}
+use Rattle.mesh_strokes.specs.Call.{scratchFor}
 use Rattle.mesh_strokes.proofs.Tests.{fourth}
 use Rattle.mesh_strokes.proofs.scratch_for.Statement.{statement}
 use Rattle.mesh_strokes.proofs.scratch_for.Tie as tie

@@ -4,7 +4,9 @@ use Prim.Native.Nat.{ℕ}
 use native.Mathlib.Omega.{arith}
 use lib.ListN.{length, replicate}
 use borrow.Author.Needs.{needs}
-use Rattle.mesh_weld.proofs.Calls.{fitting, accept, refuse}
+use Rattle.refusal.proofs.Outcomes.{accept, refuse}
+use Rattle.mesh_weld.specs.Call.{weldLeft}
+use Rattle.mesh_weld.proofs.Calls.{fitting, all-welded}
 use Rattle.mesh_weld.proofs.weld.Statement.{statement}
 use Rattle.mesh_weld.proofs.weld.Tie as tie
 
@@ -33,9 +35,8 @@ clear-requires-2 : tie.Need-clear-requires-2
 clear-requires-2 c κs = search needs
 
 returns : tie.Need-returns
-returns c =
-    let a = c .before .before .before .before .before .before .before .before .args in
-    refuse (a .coords .now) (a .scratch .now) (a .vertices .now) (a .indices .now) _ (sym (c .before .v .given .1) ∙ c .before .before .before .weld-verdict .ensures)
+unfolding weldLeft
+returns c = refuse _ _ _ _ (sym (c .before .v .given .1) ∙ c .before .before .before .weld-verdict .ensures)
 
 same-length : tie.Need-same-length
 same-length c = search needs
@@ -47,13 +48,15 @@ same-length-3 : tie.Need-same-length-3
 same-length-3 c = search needs
 
 returns-2 : tie.Need-returns-2
+unfolding weldLeft
 returns-2 c =
     let a = c .before .before .before .before .before .before .before .before .before .before .before .before .before .before .before .before .before .before .before .before .before .before .before .before .before .args in
     let w = c .before .before .before .before .before .before .before .before .before .before .weld-all in
     let e : length (w .last .1 .0) ≡ length (a .scratch .now) = w .kept .1 .0 ∙ c .before .before .before .before .before .before .before .before .before .before .before .before .before .before .before .before .clear .kept .0 in
     let z = sym (c .before .before .before .before .before .before .before .before .before .before .before .before .before .before .before .before .before .before .before .before .weld-verdict .ensures) ∙ c .before .before .before .before .before .before .before .before .before .before .before .before .before .before .before .before .before .before .enum-told .given .1 in
-    accept (a .coords .now) (a .scratch .now) (a .vertices .now) (a .indices .now) (c .before .before .clear2 .last .0) (w .last .1 .1 .0) (w .last .1 .1 .1 .0) (w .result) z (w .ensures)
-    (c .before .before .clear2 .ensures ∙ ap (λ (n : ℕ). replicate n 0) e)
+    accept _ _ _ z
+    (all-welded (a .coords .now) (a .scratch .now) (a .vertices .now) (a .indices .now) (c .before .before .clear2 .last .0) (w .last .1 .1 .0) (w .last .1 .1 .1 .0) (w .result) z (w .ensures)
+    (c .before .before .clear2 .ensures ∙ ap (λ (n : ℕ). replicate n 0) e))
 
 pub weld-spec : {M : Type 1} → statement M
 weld-spec =

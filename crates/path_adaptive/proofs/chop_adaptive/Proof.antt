@@ -1,14 +1,14 @@
 -- `chop_adaptive` meets its contract.
 use Rattle.path_adaptive.specs.declared.View.{View}
 use Rattle.path_adaptive.proofs.Calls.{accepted-at}
-use Rattle.path.proofs.Lefts.{accept, refuse}
+use Rattle.refusal.proofs.Outcomes.{accept, refuse}
+use Rattle.path.proofs.Calls.{wrote-all}
 use Rattle.path.proofs.Pushes.{front}
 use Rattle.path.specs.Laid.{putPoints, out, pushAll}
 use Rattle.path_adaptive.specs.Walk.{viewOf, walksOf, adapted, halvingsOf}
-use Rattle.path_adaptive.specs.Call.{adaptiveVerdict, adaptiveLeft}
-use Rattle.path.specs.Left.{leftBy}
+use Rattle.path_adaptive.specs.Call.{adaptiveLeft}
+use Rattle.path.specs.Call.{laid}
 use mathlib.Core.List.{[], _∷_}
-use lib.ListN.{length}
 use Prim.Native.Nat.{ℕ}
 use native.Mathlib.Omega.{arith}
 use mathlib.Core.Path.{refl, sym, ap, _∙_}
@@ -51,12 +51,11 @@ returns c =
     let n = r .ensures .1 ∙ ap (λ (x : View). halvingsOf (walksOf x (a .points .now) (a .starts .now))) v in
     let h = accepted-at (a .points .now) (a .starts .now) (a .matrix) (a .width) (a .height) (a .step) (a .tolerance) _ _ refl z in
     let ws = walksOf (viewOf (a .matrix) (a .width) (a .height) (a .step) (a .tolerance)) (a .points .now) (a .starts .now) in
-    accept _ _ _ (a .out-points .now) (a .out-starts .now) _ z e (h .fit) (h .start-fit)
-    ∙ ap (λ (x : ℕ). leftBy (adaptiveVerdict (a .points .now) (a .starts .now) (a .matrix) (a .width) (a .height) (a .step) (a .tolerance) (length (a .out-points .now)) (length (a .out-starts .now))) (x ∷ []) (adapted ws) (a .out-points .now) (a .out-starts .now)) n
+    accept _ _ _ z (wrote-all _ _ (a .out-points .now) (a .out-starts .now) _ e (h .fit) (h .start-fit) ∙ ap (λ (x : ℕ). laid (x ∷ []) (adapted ws) (a .out-points .now) (a .out-starts .now)) n)
 
 returns-2 : tie.Need-returns-2
 unfolding adaptiveLeft
-returns-2 c = refuse _ _ _ _ _ _ (sym (c .before .v .given .1) ∙ c .before .before .before .adaptive-verdict .ensures)
+returns-2 c = refuse _ _ _ _ (sym (c .before .v .given .1) ∙ c .before .before .before .adaptive-verdict .ensures)
 
 pub chop-adaptive-spec : {M : Type 1} → statement M
 chop-adaptive-spec =

@@ -1,7 +1,8 @@
 -- `chop` meets its contract.
 use Rattle.path_chop.proofs.Calls.{chop-accepted}
 use Rattle.path_chop.specs.Call.{chopLeft}
-use Rattle.path.proofs.Lefts.{accept, refuse}
+use Rattle.refusal.proofs.Outcomes.{accept, refuse}
+use Rattle.path.proofs.Calls.{wrote-all}
 use native.Mathlib.Omega.{arith}
 use mathlib.Core.Path.{sym, _∙_}
 use borrow.Author.Needs.{needs}
@@ -35,11 +36,11 @@ returns c =
     let a = c .before .before .before .before .before .before .before .before .before .before .before .before .before .before .args in
     let z = sym (c .before .before .before .before .before .before .before .before .before .chop-verdict .ensures) ∙ c .before .before .before .before .before .before .before .enum-told .given .1 in
     let h = chop-accepted (a .points .now) (a .starts .now) (a .step) _ _ z in
-    accept _ _ _ (a .out-points .now) (a .out-starts .now) _ z (c .before .before .before .before .write-strokes .ensures) (h .1) (h .2)
+    accept _ _ _ z (wrote-all _ _ (a .out-points .now) (a .out-starts .now) _ (c .before .before .before .before .write-strokes .ensures) (h .1) (h .2))
 
 returns-2 : tie.Need-returns-2
 unfolding chopLeft
-returns-2 c = refuse _ _ _ _ _ _ (sym (c .before .v .given .1) ∙ c .before .before .before .chop-verdict .ensures)
+returns-2 c = refuse _ _ _ _ (sym (c .before .v .given .1) ∙ c .before .before .before .chop-verdict .ensures)
 
 pub chop-spec : {M : Type 1} → statement M
 chop-spec =

@@ -1,7 +1,8 @@
 -- `simplify` meets its contract.
 use Rattle.path_simplify.proofs.Calls.{simplify-accepted}
 use Rattle.path_simplify.specs.Call.{simplifyLeft}
-use Rattle.path.proofs.Lefts.{accept, refuse}
+use Rattle.refusal.proofs.Outcomes.{accept, refuse}
+use Rattle.path.proofs.Calls.{wrote-all}
 use native.Mathlib.Omega.{arith}
 use mathlib.Core.Path.{sym, _∙_}
 use borrow.Author.Needs.{needs}
@@ -36,11 +37,11 @@ returns c =
     let z = sym (c .before .before .before .before .before .before .before .before .before .simplify-verdict .ensures) ∙ c .before .before .before .before .before .before .before .enum-told .given .1 in
     let h = simplify-accepted (a .points .now) (a .starts .now) (a .threshold) _ _ z in
     rw (c .before .before .before .before .write-strokes .ensures .1)
-    (accept _ _ _ (a .out-points .now) (a .out-starts .now) _ z (c .before .before .before .before .write-strokes .ensures .0) (h .fit) (h .start-fit))
+    (accept _ _ _ z (wrote-all _ _ (a .out-points .now) (a .out-starts .now) _ (c .before .before .before .before .write-strokes .ensures .0) (h .fit) (h .start-fit)))
 
 returns-2 : tie.Need-returns-2
 unfolding simplifyLeft
-returns-2 c = refuse _ _ _ _ _ _ (sym (c .before .v .given .1) ∙ c .before .before .before .simplify-verdict .ensures)
+returns-2 c = refuse _ _ _ _ (sym (c .before .v .given .1) ∙ c .before .before .before .simplify-verdict .ensures)
 
 pub simplify-spec : {M : Type 1} → statement M
 simplify-spec =

@@ -3,8 +3,9 @@ use mathlib.Core.Path.{sym, ap, _∙_}
 use Prim.Native.Nat.{ℕ}
 use lib.ListN.{length, replicate}
 use borrow.Author.Needs.{needs}
-use Rattle.path_splice.specs.Lent.{spliceLeft}
-use Rattle.path_splice.proofs.Answers.{granted, refuse, accept}
+use Rattle.path_splice.specs.Call.{spliceLeft}
+use Rattle.refusal.proofs.Outcomes.{accept, refuse}
+use Rattle.path_splice.proofs.Answers.{granted, wrote}
 use Rattle.path_splice.proofs.splice.Statement.{statement}
 use Rattle.path_splice.proofs.splice.Tie as tie
 
@@ -16,9 +17,7 @@ enum-known-r c = search needs
 
 returns : tie.Need-returns
 unfolding spliceLeft
-returns c =
-    let z = c .before .before .before .before .before .before .before .before .before in
-    refuse _ _ _ (z .args .scratch .now) (z .args .out-points .now) (z .args .out-starts .now) (sym (c .before .before .before .verdict .ensures) ∙ c .before .r .given .1)
+returns c = refuse _ _ _ _ (sym (c .before .r .given .1) ∙ c .before .before .before .verdict .ensures)
 
 enum-told : tie.Need-enum-told
 enum-told c = search needs
@@ -46,7 +45,8 @@ returns-2 c =
     let z = c .before .before .before .before .before .before .before .before .before .before .before .before .before .before .before .before .before .before .before .before .before .before in
     let d = c .before .before .before .before .before .before .before .before .before .before .draw in
     let k = c .before .before .clear in
-    accept _ _ (z .args .scratch .now) (z .args .out-points .now) (z .args .out-starts .now) _ _ _ _ _ (sym (c .before .before .before .before .before .before .before .before .before .before .before .before .before .before .before .before .verdict .ensures) ∙ c .before .before .before .before .before .before .before .before .before .before .before .before .before .before .enum-told .given .1) (k .ensures ∙ ap (λ (n : ℕ). replicate n 0) (d .kept .1 .1 .0)) (d .ensures)
+    let y = sym (c .before .before .before .before .before .before .before .before .before .before .before .before .before .before .before .before .verdict .ensures) ∙ c .before .before .before .before .before .before .before .before .before .before .before .before .before .before .enum-told .given .1 in
+    accept _ _ _ y (wrote _ _ _ (z .args .out-points .now) (z .args .out-starts .now) _ _ _ _ (k .ensures ∙ ap (λ (n : ℕ). replicate n 0) (d .kept .1 .1 .0)) (d .ensures))
 
 pub splice-spec : {M : Type 1} → statement M
 splice-spec = tie.close (tie.spec verdict-requires enum-known-r returns enum-told draw-requires clear-requires same-length same-length-2 same-length-3 returns-2)

@@ -4,7 +4,7 @@ use native.Mathlib.Omega.{arith}
 use borrow.Author.Needs.{needs}
 use borrow.Author.Tests.{le-leb, lt-leb, not-true, not-false}
 use Rattle.refusal.specs.Refusals.{unless}
-use Rattle.path_splice.specs.Lent.{verdictOf}
+use Rattle.path_splice.specs.Call.{verdictOf}
 use Rattle.path_splice.proofs.Answers.{within-limits}
 use Rattle.path_splice.proofs.verdict.Statement.{statement}
 use Rattle.path_splice.proofs.verdict.Tie as tie

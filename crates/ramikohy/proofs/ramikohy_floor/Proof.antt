@@ -5,7 +5,7 @@ use mir.ValLaws.{toZ-ofZ}
 use borrow.Author.Needs.{needs}
 use denote.Ref.{now}
 use Rattle.vector.specs.Answers.{wholeSaid}
-use Rattle.ramikohy.specs.Status.{left, leftBy}
+use Rattle.ramikohy.specs.Status.{valued, valuedBy}
 use Rattle.ramikohy.proofs.ramikohy_floor.Statement.{statement}
 use Rattle.ramikohy.proofs.ramikohy_floor.Tie as tie
 
@@ -24,14 +24,14 @@ number-requires c κs = search needs
 returns : tie.Need-returns
 returns c =
     let at = c .before .before .before in
-    ap (left 0) (toZ-ofZ w64 (c .before .z .given .0 .0) (record { sfits = c .known-told .given .0 .1 }))
-    ∙ ap (λ s. leftBy s (now (at .before .args .whole))) (ap wholeSaid (sym (c .before .z .given .1)) ∙ at .floor .ensures)
+    ap (valued 0) (toZ-ofZ w64 (c .before .z .given .0 .0) (record { sfits = c .known-told .given .0 .1 }))
+    ∙ ap (λ s. valuedBy s (now (at .before .args .whole))) (ap wholeSaid (sym (c .before .z .given .1)) ∙ at .floor .ensures)
 
 returns-2 : tie.Need-returns-2
 returns-2 c =
     let at = c .before .before .before .before in
     let old = now (at .before .args .whole) in
-    ap (λ n. left n old) (c .number .ensures) ∙ ap (λ s. leftBy s old) (ap wholeSaid (sym (c .before .before .why .given .1)) ∙ at .floor .ensures)
+    ap (λ n. valued n old) (c .number .ensures) ∙ ap (λ s. valuedBy s old) (ap wholeSaid (sym (c .before .before .why .given .1)) ∙ at .floor .ensures)
 
 pub ramikohy-floor-spec : {M : Type 1} → statement M
 ramikohy-floor-spec =

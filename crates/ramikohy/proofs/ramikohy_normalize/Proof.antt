@@ -5,7 +5,7 @@ use denote.Ref.{now}
 use Rattle.vector.specs.Answers.{unitSaid}
 use Rattle.vector.specs.Lengths.{unitOf}
 use Rattle.ramikohy.specs.Points.{pointOf}
-use Rattle.ramikohy.specs.Status.{left, leftByUnit}
+use Rattle.ramikohy.specs.Status.{valued, valuedByUnit}
 use Rattle.ramikohy.proofs.ramikohy_normalize.Statement.{statement}
 use Rattle.ramikohy.proofs.ramikohy_normalize.Tie as tie
 
@@ -28,14 +28,14 @@ returns : tie.Need-returns
 returns c =
     let at = c .before .before .before .before .before in
     let old = now (at .before .before .args .out) in
-    ap (left 0) (c .put .ensures)
-    ∙ ap (λ s. leftByUnit s (pointOf old)) (ap unitSaid (sym (c .before .before .before .q .given .1)) ∙ at .normalize .ensures ∙ ap unitOf (at .before .point .ensures))
+    ap (valued 0) (c .put .ensures)
+    ∙ ap (λ s. valuedByUnit s (pointOf old)) (ap unitSaid (sym (c .before .before .before .q .given .1)) ∙ at .normalize .ensures ∙ ap unitOf (at .before .point .ensures))
 
 returns-2 : tie.Need-returns-2
 returns-2 c =
     let at = c .before .before in
     let old = now (at .before .before .args .out) in
-    ap (λ s. leftByUnit s (pointOf old)) (ap unitSaid (sym (c .enum-told .given .1)) ∙ at .normalize .ensures ∙ ap unitOf (at .before .point .ensures))
+    ap (λ s. valuedByUnit s (pointOf old)) (ap unitSaid (sym (c .enum-told .given .1)) ∙ at .normalize .ensures ∙ ap unitOf (at .before .point .ensures))
 
 pub ramikohy-normalize-spec : {M : Type 1} → statement M
 ramikohy-normalize-spec =

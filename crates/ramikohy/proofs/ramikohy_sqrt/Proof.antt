@@ -3,7 +3,7 @@ use mathlib.Core.Path.{sym, ap, _∙_}
 use borrow.Author.Needs.{needs}
 use denote.Ref.{now}
 use Rattle.vector.specs.Answers.{rootSaid}
-use Rattle.ramikohy.specs.Status.{left, leftBy}
+use Rattle.ramikohy.specs.Status.{valued, valuedBy}
 use Rattle.ramikohy.proofs.ramikohy_sqrt.Statement.{statement}
 use Rattle.ramikohy.proofs.ramikohy_sqrt.Tie as tie
 
@@ -22,13 +22,13 @@ number-requires c κs = search needs
 returns : tie.Need-returns
 returns c =
     let at = c .before .before .before in
-    ap (λ s. leftBy s (now (at .before .args .root))) (ap rootSaid (sym (c .before .y .given .1)) ∙ at .sqrt .ensures)
+    ap (λ s. valuedBy s (now (at .before .args .root))) (ap rootSaid (sym (c .before .y .given .1)) ∙ at .sqrt .ensures)
 
 returns-2 : tie.Need-returns-2
 returns-2 c =
     let at = c .before .before .before .before in
     let old = now (at .before .args .root) in
-    ap (λ n. left n old) (c .number .ensures) ∙ ap (λ s. leftBy s old) (ap rootSaid (sym (c .before .before .why .given .1)) ∙ at .sqrt .ensures)
+    ap (λ n. valued n old) (c .number .ensures) ∙ ap (λ s. valuedBy s old) (ap rootSaid (sym (c .before .before .why .given .1)) ∙ at .sqrt .ensures)
 
 pub ramikohy-sqrt-spec : {M : Type 1} → statement M
 ramikohy-sqrt-spec =

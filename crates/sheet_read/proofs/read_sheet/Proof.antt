@@ -2,8 +2,9 @@
 use borrow.Author.Needs.{needs}
 use mathlib.Core.Path.{sym, _∙_}
 use native.Mathlib.Omega.{arith}
-use Rattle.sheet_read.specs.Read.{readLeft}
-use Rattle.sheet_read.proofs.Calls.{granted, refuse, accept}
+use Rattle.sheet_read.specs.Call.{readLeft}
+use Rattle.refusal.proofs.Outcomes.{accept, refuse}
+use Rattle.sheet_read.proofs.Calls.{granted, all-read}
 use Rattle.sheet_read.proofs.read_sheet.Statement.{statement}
 use Rattle.sheet_read.proofs.read_sheet.Tie as tie
 
@@ -51,7 +52,7 @@ cast-t13 c = search needs
 
 returns : tie.Need-returns
 unfolding readLeft
-returns c = refuse _ _ _ _ _ (sym (c .before .v .given .1) ∙ c .before .before .before .verdict .ensures)
+returns c = refuse _ _ _ _ (sym (c .before .v .given .1) ∙ c .before .before .before .verdict .ensures)
 
 same-length : tie.Need-same-length
 same-length c = search needs
@@ -65,7 +66,8 @@ returns-2 c =
     let a = c .before .before .before .before .before .before .before .before .before .before .before .before .before .before .before .before .before .before .before .args in
     let z = sym (c .before .before .before .before .before .before .before .before .before .before .before .before .before .before .before .verdict .ensures) ∙ c .before .before .before .before .before .before .before .before .before .before .before .before .before .enum-told .given .1 in
     let g = granted (a .bytes .now) _ _ z in
-    accept _ (a .bytes .now) (a .out-numbers .now) (a .out-starts .now) z (g .room-points) (g .room-starts) _ _ _ _ _ (c .before .word-at3 .ensures) (c .word-at4 .ensures) (c .before .before .before .before .before .before .before .before .before .before .before .before .word-at .ensures) (c .before .before .before .before .before .before .before .before .before .before .before .word-at2 .ensures) (c .before .before .before .before .before .before .numbers-from .ensures) _ _ (c .before .before .before .before .copy-words2 .ensures) (c .before .before .before .before .before .before .before .before .before .copy-words .ensures)
+    accept _ _ _ z
+    (all-read (a .bytes .now) (a .out-numbers .now) (a .out-starts .now) (g .room-points) (g .room-starts) _ _ _ _ _ (c .before .word-at3 .ensures) (c .word-at4 .ensures) (c .before .before .before .before .before .before .before .before .before .before .before .before .word-at .ensures) (c .before .before .before .before .before .before .before .before .before .before .before .word-at2 .ensures) (c .before .before .before .before .before .before .numbers-from .ensures) _ _ (c .before .before .before .before .copy-words2 .ensures) (c .before .before .before .before .before .before .before .before .before .copy-words .ensures))
 
 pub read-sheet-spec : {M : Type 1} → statement M
 read-sheet-spec =

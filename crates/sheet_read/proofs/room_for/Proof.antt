@@ -1,7 +1,6 @@
 -- `room_for` meets its contract.
-use lib.Dec.{leb}
 use borrow.Author.Tests.{le-leb, lt-leb}
-use Rattle.sheet_read.specs.Read.{roomFor}
+use Rattle.sheet_read.specs.Call.{roomFor}
 use borrow.Author.Needs.{needs}
 use Rattle.sheet_read.proofs.room_for.Statement.{statement}
 use Rattle.sheet_read.proofs.room_for.Tie as tie

@@ -2,7 +2,7 @@
 use mathlib.Core.Path.{sym, _∙_}
 use borrow.Author.Tests.{not-true, not-false}
 use Rattle.refusal.specs.Refusals.{unless}
-use Rattle.sheet_read.specs.Read.{verdictOf}
+use Rattle.sheet_read.specs.Call.{verdictOf}
 use borrow.Author.Needs.{needs}
 use Rattle.sheet_read.proofs.verdict.Statement.{statement}
 use Rattle.sheet_read.proofs.verdict.Tie as tie

@@ -4,7 +4,7 @@ use native.Mathlib.Omega.{arith}
 use lib.Dec.{ltb}
 use borrow.Author.Tests.{not-true, not-false}
 use Rattle.refusal.specs.Refusals.{unless}
-use Rattle.sheet_write.specs.Write.{verdictOf}
+use Rattle.sheet_write.specs.Call.{verdictOf}
 use Rattle.sheet.proofs.Modes.{word-some}
 use Rattle.sheet.proofs.Sizes.{limits}
 use Rattle.sheet_write.proofs.Calls.{same-size}

@@ -5,8 +5,9 @@ use lib.ListN.{length}
 use Rattle.sheet.proofs.Sizes.{words-size}
 use Rattle.sheet.specs.Kept.{keptFrom}
 use Rattle.sheet.specs.Sheets.{modeWord}
-use Rattle.sheet_write.specs.Write.{writeLeft}
-use Rattle.sheet_write.proofs.Calls.{granted, sheet-is, refuse, accept}
+use Rattle.sheet_write.specs.Call.{writeLeft}
+use Rattle.refusal.proofs.Outcomes.{accept, refuse}
+use Rattle.sheet_write.proofs.Calls.{granted, sheet-is, all-written}
 use borrow.Author.Needs.{needs}
 use Rattle.sheet_write.proofs.write_sheet.Statement.{statement}
 use Rattle.sheet_write.proofs.write_sheet.Tie as tie
@@ -41,7 +42,8 @@ returns-2 c =
     let g = granted (a .mode) (a .vertices) (a .numbers .now) (a .starts .now) _ z in
     let w = c .before .before .write-all .ensures in
     let s = words-size (modeWord (a .mode)) (a .vertices) (keptFrom (length (a .numbers .now)) (a .starts .now)) (a .numbers .now) in
-    accept _ _ (a .out .now) z _ _ _ (sheet-is (modeWord (a .mode)) (a .vertices) (a .numbers .now) (a .starts .now) (g .table)) (w .0) (w .1 ∙ sym s) (omega (arith, w .1, g .fits))
+    accept _ _ _ z
+    (all-written _ (a .out .now) _ _ _ (sheet-is (modeWord (a .mode)) (a .vertices) (a .numbers .now) (a .starts .now) (g .table)) (w .0) (w .1 ∙ sym s) (omega (arith, w .1, g .fits)))
 
 pub write-sheet-spec : {M : Type 1} → statement M
 write-sheet-spec =

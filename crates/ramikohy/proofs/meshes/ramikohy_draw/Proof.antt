@@ -2,7 +2,7 @@
 use borrow.Author.Needs.{needs}
 use mathlib.Core.Path.{ap}
 use Rattle.mesh_draw.specs.Call.{said}
-use Rattle.ramikohy.proofs.Calls.{drew, refuse-draw}
+use Rattle.ramikohy.proofs.Calls.{wrote, refuse}
 use Rattle.ramikohy.proofs.meshes.ramikohy_draw.Statement.{statement}
 use Rattle.ramikohy.proofs.meshes.ramikohy_draw.Tie as tie
 
@@ -46,7 +46,7 @@ same-length-4 c = search needs
 returns : tie.Need-returns
 returns c =
     let d = c .before .before .before .before .before .before .before .before .before .before .before .draw in
-    rw (← c .before .before .before .before .before .before .before .before .before .before .before .before .before .before .before .before .point .ensures) (drew _ (said (d .result)) _ _ _ _ _ (d .ensures) _ _ (ap said (c .before .p .given .1)))
+    rw (← c .before .before .before .before .before .before .before .before .before .before .before .before .before .before .before .before .point .ensures) (wrote _ (said (d .result)) _ _ (d .ensures) _ _ (ap said (c .before .p .given .1)))
 
 -- src/meshes.rt:79:1
 same-length-5 : tie.Need-same-length-5
@@ -68,7 +68,7 @@ same-length-8 c = search needs
 returns-2 : tie.Need-returns-2
 returns-2 c =
     let d = c .before .before .before .before .before .before .before .before .before .before .before .before .draw in
-    rw (← c .before .before .before .before .before .before .before .before .before .before .before .before .before .before .before .before .before .point .ensures) (refuse-draw _ (said (d .result)) _ _ _ _ _ (d .ensures) _ (c .before .before .why .given .0 .0) (c .number .ensures) (ap said (c .before .before .why .given .1)))
+    rw (← c .before .before .before .before .before .before .before .before .before .before .before .before .before .before .before .before .before .point .ensures) (refuse _ (said (d .result)) _ _ (d .ensures) _ (c .before .before .why .given .0 .0) (c .number .ensures) (ap said (c .before .before .why .given .1)))
 
 pub ramikohy-draw-spec : {M : Type 1} → statement M
 ramikohy-draw-spec =

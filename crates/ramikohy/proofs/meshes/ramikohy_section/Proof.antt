@@ -1,7 +1,6 @@
 -- `ramikohy_section` meets its contract, by that of `section`.
-use mathlib.Core.Path.{_≡_, ap, _∙_}
-use Rattle.mesh_section.specs.declared.Plane.{Plane}
-use Rattle.mesh_section.specs.Call.{said, sectionLeft}
+use mathlib.Core.Path.{ap}
+use Rattle.mesh_section.specs.Call.{said}
 use Rattle.ramikohy.proofs.Calls.{wrote, refuse}
 use borrow.Author.Needs.{needs}
 use Rattle.ramikohy.proofs.meshes.ramikohy_section.Statement.{statement}
@@ -35,7 +34,7 @@ returns : tie.Need-returns
 returns c =
     let a = c .before .before .before .before .before .before .before .before .before .before .before .before .before .before .before .before .args in
     let s = c .before .before .before .before .before .before .before .section in
-    rw (← c .before .before .before .before .before .before .before .before .before .before .before .point .ensures, ← c .before .before .before .before .before .before .before .before .before .before .point2 .ensures) (wrote _ (said (s .result)) _ _ _ (s .ensures) _ _ (ap said (c .before .p .given .1)))
+    rw (← c .before .before .before .before .before .before .before .before .before .before .before .point .ensures, ← c .before .before .before .before .before .before .before .before .before .before .point2 .ensures) (wrote _ (said (s .result)) _ _ (s .ensures) _ _ (ap said (c .before .p .given .1)))
 
 same-length-3 : tie.Need-same-length-3
 same-length-3 c = search needs
@@ -47,7 +46,7 @@ returns-2 : tie.Need-returns-2
 returns-2 c =
     let a = c .before .before .before .before .before .before .before .before .before .before .before .before .before .before .before .before .before .args in
     let s = c .before .before .before .before .before .before .before .before .section in
-    rw (← c .before .before .before .before .before .before .before .before .before .before .before .before .point .ensures, ← c .before .before .before .before .before .before .before .before .before .before .before .point2 .ensures) (refuse _ (said (s .result)) _ _ _ (s .ensures) _ (c .before .before .why .given .0 .0) (c .number .ensures) (ap said (c .before .before .why .given .1)))
+    rw (← c .before .before .before .before .before .before .before .before .before .before .before .before .point .ensures, ← c .before .before .before .before .before .before .before .before .before .before .before .point2 .ensures) (refuse _ (said (s .result)) _ _ (s .ensures) _ (c .before .before .why .given .0 .0) (c .number .ensures) (ap said (c .before .before .why .given .1)))
 
 pub ramikohy-section-spec : {M : Type 1} → statement M
 ramikohy-section-spec =

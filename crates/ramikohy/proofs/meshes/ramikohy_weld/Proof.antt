@@ -1,8 +1,7 @@
 -- `ramikohy_weld` meets its contract, by that of `weld`.
 use mathlib.Core.Path.{ap}
-use denote.Ref.{now}
 use Rattle.mesh_weld.specs.Call.{said}
-use Rattle.ramikohy.proofs.Calls.{welded, refuse-weld}
+use Rattle.ramikohy.proofs.Calls.{wrote, refuse}
 use borrow.Author.Needs.{needs}
 use Rattle.ramikohy.proofs.meshes.ramikohy_weld.Statement.{statement}
 use Rattle.ramikohy.proofs.meshes.ramikohy_weld.Tie as tie
@@ -31,7 +30,7 @@ same-length-3 c = search needs
 returns : tie.Need-returns
 returns c =
     let w = c .before .before .before .before .before .before .before .before .before .weld in
-    welded _ (said (w .result)) _ _ _ _ (w .ensures) _ _ _ (ap said (c .before .v .given .1))
+    wrote _ (said (w .result)) _ _ (w .ensures) _ _ (ap said (c .before .v .given .1))
 
 same-length-4 : tie.Need-same-length-4
 same-length-4 c = search needs
@@ -45,7 +44,7 @@ same-length-6 c = search needs
 returns-2 : tie.Need-returns-2
 returns-2 c =
     let w = c .before .before .before .before .before .before .before .before .before .before .weld in
-    refuse-weld _ (said (w .result)) _ _ _ _ (w .ensures) _ (c .before .before .why .given .0 .0) (c .number .ensures) (ap said (c .before .before .why .given .1))
+    refuse _ (said (w .result)) _ _ (w .ensures) _ (c .before .before .why .given .0 .0) (c .number .ensures) (ap said (c .before .before .why .given .1))
 
 pub ramikohy-weld-spec : {M : Type 1} → statement M
 ramikohy-weld-spec =

@@ -1,8 +1,8 @@
 -- `ramikohy_read_sheet` meets its contract, by that of `read_sheet`.
 use borrow.Author.Needs.{needs}
 use mathlib.Core.Path.{ap}
-use Rattle.sheet_read.specs.Read.{said}
-use Rattle.ramikohy.proofs.Calls.{did-read, refuse-reading}
+use Rattle.sheet_read.specs.Call.{said}
+use Rattle.ramikohy.proofs.Calls.{wrote, refuse}
 use Rattle.ramikohy.proofs.sheets.ramikohy_read_sheet.Statement.{statement}
 use Rattle.ramikohy.proofs.sheets.ramikohy_read_sheet.Tie as tie
 
@@ -32,7 +32,7 @@ same-length-2 c = search needs
 
 -- src/sheets.rt:34:1
 returns : tie.Need-returns
-returns c = let r = c .before .before .before .before .before .before .before .read-sheet in did-read _ (said (r .result)) _ _ _ (r .ensures) _ _ (ap said (c .before .m .given .1))
+returns c = let r = c .before .before .before .before .before .before .before .read-sheet in wrote _ (said (r .result)) _ _ (r .ensures) _ _ (ap said (c .before .m .given .1))
 
 -- src/sheets.rt:34:1
 same-length-3 : tie.Need-same-length-3
@@ -44,7 +44,7 @@ same-length-4 c = search needs
 
 -- src/sheets.rt:34:1
 returns-2 : tie.Need-returns-2
-returns-2 c = let r = c .before .before .before .before .before .before .before .before .read-sheet in refuse-reading _ (said (r .result)) _ _ _ (r .ensures) _ (c .before .before .why .given .0 .0) (c .number .ensures) (ap said (c .before .before .why .given .1))
+returns-2 c = let r = c .before .before .before .before .before .before .before .before .read-sheet in refuse _ (said (r .result)) _ _ (r .ensures) _ (c .before .before .why .given .0 .0) (c .number .ensures) (ap said (c .before .before .why .given .1))
 
 pub ramikohy-read-sheet-spec : {M : Type 1} → statement M
 ramikohy-read-sheet-spec =

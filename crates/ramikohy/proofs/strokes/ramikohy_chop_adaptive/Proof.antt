@@ -28,7 +28,7 @@ same-length-2 : tie.Need-same-length-2
 same-length-2 c = search needs
 
 returns : tie.Need-returns
-returns c = let s = c .before .before .before .before .before .before .before .chop-adaptive in wrote _ (said (s .result)) _ _ _ (rw (c .before .before .before .before .before .before .before .before .before .before .matrix .ensures) at (s .ensures)) _ _ (ap said (c .before .p .given .1))
+returns c = let s = c .before .before .before .before .before .before .before .chop-adaptive in wrote _ (said (s .result)) _ _ (rw (c .before .before .before .before .before .before .before .before .before .before .matrix .ensures) at (s .ensures)) _ _ (ap said (c .before .p .given .1))
 
 same-length-3 : tie.Need-same-length-3
 same-length-3 c = search needs
@@ -37,7 +37,7 @@ same-length-4 : tie.Need-same-length-4
 same-length-4 c = search needs
 
 returns-2 : tie.Need-returns-2
-returns-2 c = let s = c .before .before .before .before .before .before .before .before .chop-adaptive in refuse _ (said (s .result)) _ _ _ (rw (c .before .before .before .before .before .before .before .before .before .before .before .matrix .ensures) at (s .ensures)) _ (c .before .before .why .given .0 .0) (c .number .ensures) (ap said (c .before .before .why .given .1))
+returns-2 c = let s = c .before .before .before .before .before .before .before .before .chop-adaptive in refuse _ (said (s .result)) _ _ (rw (c .before .before .before .before .before .before .before .before .before .before .before .matrix .ensures) at (s .ensures)) _ (c .before .before .why .given .0 .0) (c .number .ensures) (ap said (c .before .before .why .given .1))
 
 pub ramikohy-chop-adaptive-spec : {M : Type 1} → statement M
 ramikohy-chop-adaptive-spec =

@@ -25,7 +25,7 @@ same-length-2 : tie.Need-same-length-2
 same-length-2 c = search needs
 
 returns : tie.Need-returns
-returns c = let s = c .before .before .before .before .before .before .before .simplify in wrote _ (said (s .result)) _ _ _ (s .ensures) _ _ (ap said (c .before .p .given .1))
+returns c = let s = c .before .before .before .before .before .before .before .simplify in wrote _ (said (s .result)) _ _ (s .ensures) _ _ (ap said (c .before .p .given .1))
 
 same-length-3 : tie.Need-same-length-3
 same-length-3 c = search needs
@@ -34,7 +34,7 @@ same-length-4 : tie.Need-same-length-4
 same-length-4 c = search needs
 
 returns-2 : tie.Need-returns-2
-returns-2 c = let s = c .before .before .before .before .before .before .before .before .simplify in refuse _ (said (s .result)) _ _ _ (s .ensures) _ (c .before .before .why .given .0 .0) (c .number .ensures) (ap said (c .before .before .why .given .1))
+returns-2 c = let s = c .before .before .before .before .before .before .before .before .simplify in refuse _ (said (s .result)) _ _ (s .ensures) _ (c .before .before .why .given .0 .0) (c .number .ensures) (ap said (c .before .before .why .given .1))
 
 pub ramikohy-simplify-spec : {M : Type 1} → statement M
 ramikohy-simplify-spec =

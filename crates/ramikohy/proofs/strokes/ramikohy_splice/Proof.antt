@@ -1,7 +1,7 @@
 -- `ramikohy_splice` meets its contract, by that of `splice`.
 use mathlib.Core.Path.{ap}
-use Rattle.path_splice.specs.Lent.{said}
-use Rattle.ramikohy.proofs.Calls.{spliced, refuse-splice}
+use Rattle.path_splice.specs.Call.{said}
+use Rattle.ramikohy.proofs.Calls.{wrote, refuse}
 use borrow.Author.Needs.{needs}
 use Rattle.ramikohy.proofs.strokes.ramikohy_splice.Statement.{statement}
 use Rattle.ramikohy.proofs.strokes.ramikohy_splice.Tie as tie
@@ -28,7 +28,7 @@ same-length-3 : tie.Need-same-length-3
 same-length-3 c = search needs
 
 returns : tie.Need-returns
-returns c = let s = c .before .before .before .before .before .before .before .before .before .splice in spliced _ (said (s .result)) _ _ _ _ (s .ensures) _ _ (ap said (c .before .p .given .1))
+returns c = let s = c .before .before .before .before .before .before .before .before .before .splice in wrote _ (said (s .result)) _ _ (s .ensures) _ _ (ap said (c .before .p .given .1))
 
 same-length-4 : tie.Need-same-length-4
 same-length-4 c = search needs
@@ -40,7 +40,7 @@ same-length-6 : tie.Need-same-length-6
 same-length-6 c = search needs
 
 returns-2 : tie.Need-returns-2
-returns-2 c = let s = c .before .before .before .before .before .before .before .before .before .before .splice in refuse-splice _ (said (s .result)) _ _ _ _ (s .ensures) _ (c .before .before .why .given .0 .0) (c .number .ensures) (ap said (c .before .before .why .given .1))
+returns-2 c = let s = c .before .before .before .before .before .before .before .before .before .before .splice in refuse _ (said (s .result)) _ _ (s .ensures) _ (c .before .before .why .given .0 .0) (c .number .ensures) (ap said (c .before .before .why .given .1))
 
 pub ramikohy-splice-spec : {M : Type 1} → statement M
 ramikohy-splice-spec =

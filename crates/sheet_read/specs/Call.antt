@@ -6,9 +6,10 @@ use lib.ListN.{length}
 use lib.Dec.{leb}
 use Rattle.refusal.specs.declared.Refusal.the-variants.{Room, Sheet}
 use Rattle.refusal.specs.declared.Verdict.{Verdict}
-use Rattle.refusal.specs.declared.Verdict.the-variants.{Accepted, Refused}
+use Rattle.refusal.specs.declared.Verdict.the-variants.{Accepted}
 use Rattle.refusal.specs.Refusals.{unless}
 use Rattle.refusal.specs.Said.{Said, accepted, refused}
+use Rattle.refusal.specs.Outcome.{Outcome, leaves, outcome}
 use Rattle.path.specs.Laid.{over}
 use Rattle.sheet.specs.Sheets.{modeIn, verticesIn, strokeCount, pointCount, startsIn, numbersIn, isSheet}
 use Rattle.sheet_read.specs.declared.SheetRead.{SheetRead}
@@ -27,18 +28,19 @@ abbrev pub said : SheetRead → Said ℕ
 said (R.Wrote mode vertices points starts) = accepted (points ∷ starts ∷ mode ∷ vertices ∷ [])
 said (R.Refused r) = refused r
 
-pub record Left : Type 0 where
-  pub answer : Said ℕ
+pub record Lent : Type 0 where
   pub numbers : List ℕ
   pub starts : List ℕ
 
-abbrev pub left : Said ℕ → List ℕ → List ℕ → Left
-left a ns ss = record { answer = a; numbers = ns; starts = ss }
+abbrev pub lent : List ℕ → List ℕ → Lent
+lent ns ss = record { numbers = ns; starts = ss }
 
--- accepted: the sheet's numbers and starts, and the rest of both lists as it was; refused: all as it was
-unfoldable pub leftBy : Verdict → List ℕ → List ℕ → List ℕ → Left
-leftBy Accepted bs on os = left (accepted (pointCount bs ∷ strokeCount bs ∷ modeIn bs ∷ verticesIn bs ∷ [])) (over on (numbersIn bs)) (over os (startsIn bs))
-leftBy (Refused r) bs on os = left (refused r) on os
+abbrev pub left : Said ℕ → List ℕ → List ℕ → Outcome Lent
+left a ns ss = leaves a (lent ns ss)
 
-unfoldable pub readLeft : List ℕ → List ℕ → List ℕ → Left
-readLeft bs on os = leftBy (verdictOf bs (length on) (length os)) bs on os
+-- accepted: the sheet's numbers and starts, and the rest of both lists as it was
+unfoldable pub laid : List ℕ → List ℕ → List ℕ → Outcome Lent
+laid bs on os = left (accepted (pointCount bs ∷ strokeCount bs ∷ modeIn bs ∷ verticesIn bs ∷ [])) (over on (numbersIn bs)) (over os (startsIn bs))
+
+unfoldable pub readLeft : List ℕ → List ℕ → List ℕ → Outcome Lent
+readLeft bs on os = outcome (verdictOf bs (length on) (length os)) (lent on os) (laid bs on os)

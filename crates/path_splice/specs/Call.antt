@@ -7,9 +7,10 @@ use lib.ListN.{length, replicate}
 use lib.Dec.{leb, eqb}
 use Rattle.refusal.specs.declared.Refusal.the-variants.{Shape, Count, Scratch, Room}
 use Rattle.refusal.specs.declared.Verdict.{Verdict}
-use Rattle.refusal.specs.declared.Verdict.the-variants.{Accepted, Refused}
+use Rattle.refusal.specs.declared.Verdict.the-variants.{Accepted}
 use Rattle.refusal.specs.Refusals.{unless}
 use Rattle.refusal.specs.Said.{Said, accepted, refused}
+use Rattle.refusal.specs.Outcome.{Outcome, leaves, outcome}
 use Rattle.path.specs.Strokes.{goodStarts, strokesIn}
 use Rattle.path.specs.Laid.{over, joined, startsFrom}
 use Rattle.path.specs.Tests.{countedOf}
@@ -31,23 +32,22 @@ abbrev pub said : Spliced → Said ℕ
 said (spliced.Wrote p q) = accepted (p ∷ q ∷ [])
 said (spliced.Refused r) = refused r
 
-pub record Left : Type 0 where
-  pub answer : Said ℕ
+pub record Lent : Type 0 where
   pub scratch : List ℕ
   pub points : List ℕ
   pub starts : List ℕ
 
-abbrev pub left : Said ℕ → List ℕ → List ℕ → List ℕ → Left
-left a s op os = record { answer = a; scratch = s; points = op; starts = os }
+abbrev pub lent : List ℕ → List ℕ → List ℕ → Lent
+lent s op os = record { scratch = s; points = op; starts = os }
+
+abbrev pub left : Said ℕ → List ℕ → List ℕ → List ℕ → Outcome Lent
+left a s op os = leaves a (lent s op os)
 
 -- strokes written: their points in a row, the start of each, and the rest of both lists as it was
-unfoldable pub laid : List (List ℕ) → List ℕ → List ℕ → List ℕ → Left
+unfoldable pub laid : List (List ℕ) → List ℕ → List ℕ → List ℕ → Outcome Lent
 laid ss s op os = left (accepted (length (joined ss) ∷ length ss ∷ [])) s (over op (joined ss)) (over os (startsFrom 0 ss))
 
--- accepted: the spliced strokes written, and scratch all zero; refused: all as it was
-unfoldable pub leftBy : Verdict → List (List ℕ) → List ℕ → List ℕ → List ℕ → Left
-leftBy Accepted ss s op os = laid ss (replicate (length s) 0) op os
-leftBy (Refused r) ss s op os = left (refused r) s op os
-
-unfoldable pub spliceLeft : List ℕ → List ℕ → List ℕ → List ℕ → List ℕ → Left
-spliceLeft ps ss s op os = leftBy (verdictOf ps ss (length s) (length op) (length os)) (splice 0 eqb (strokesIn ps ss)) s op os
+-- accepted: the spliced strokes written, and scratch all zero
+unfoldable pub spliceLeft : List ℕ → List ℕ → List ℕ → List ℕ → List ℕ → Outcome Lent
+spliceLeft ps ss s op os =
+    outcome (verdictOf ps ss (length s) (length op) (length os)) (lent s op os) (laid (splice 0 eqb (strokesIn ps ss)) (replicate (length s) 0) op os)

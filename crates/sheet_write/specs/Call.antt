@@ -5,9 +5,10 @@ use lib.ListN.{length}
 use lib.Dec.{leb, ltb}
 use Rattle.refusal.specs.declared.Refusal.the-variants.{Shape, Count, Vertex, Number, Room}
 use Rattle.refusal.specs.declared.Verdict.{Verdict}
-use Rattle.refusal.specs.declared.Verdict.the-variants.{Accepted, Refused}
+use Rattle.refusal.specs.declared.Verdict.the-variants.{Accepted}
 use Rattle.refusal.specs.Refusals.{unless}
 use Rattle.refusal.specs.Said.{Said, accepted, refused}
+use Rattle.refusal.specs.Outcome.{Outcome, leaves, outcome}
 use Rattle.path.specs.Strokes.{goodStarts, strokesIn}
 use Rattle.path.specs.Laid.{over, nonEmpty}
 use Rattle.mesh.specs.Meshes.{allBelow}
@@ -30,17 +31,18 @@ abbrev pub said : SheetWritten → Said ℕ
 said (W.Wrote n) = accepted (n ∷ [])
 said (W.Refused r) = refused r
 
-pub record Left : Type 0 where
-  pub answer : Said ℕ
+pub record Lent : Type 0 where
   pub bytes : List ℕ
 
-abbrev pub left : Said ℕ → List ℕ → Left
-left a b = record { answer = a; bytes = b }
+abbrev pub lent : List ℕ → Lent
+lent bs = record { bytes = bs }
 
--- accepted: the sheet, and the rest as it was; refused: all as it was
-unfoldable pub leftBy : Verdict → List ℕ → List ℕ → Left
-leftBy Accepted sheet out = left (accepted (length sheet ∷ [])) (over out sheet)
-leftBy (Refused r) sheet out = left (refused r) out
+abbrev pub left : Said ℕ → List ℕ → Outcome Lent
+left a bs = leaves a (lent bs)
 
-unfoldable pub writeLeft : ℕ → ℕ → List ℕ → List ℕ → List ℕ → Left
-writeLeft mode vertices ns ss out = leftBy (verdictOf mode vertices ns ss (length out)) (sheetOf (modeWord mode) vertices (strokesIn ns ss)) out
+-- accepted: the sheet, and the rest as it was
+unfoldable pub laid : List ℕ → List ℕ → Outcome Lent
+laid sheet out = left (accepted (length sheet ∷ [])) (over out sheet)
+
+unfoldable pub writeLeft : ℕ → ℕ → List ℕ → List ℕ → List ℕ → Outcome Lent
+writeLeft mode vertices ns ss out = outcome (verdictOf mode vertices ns ss (length out)) (lent out) (laid (sheetOf (modeWord mode) vertices (strokesIn ns ss)) out)

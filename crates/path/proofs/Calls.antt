@@ -1,0 +1,22 @@
+-- What an accepted call on points leaves. Assumes nothing.
+use mathlib.Core.Path.{_≡_, ap}
+use mathlib.Core.List.{List, _∷_}
+use Prim.Native.Nat.{ℕ, _*_, _≤_}
+use lib.ListN.{length}
+use lib.Ieee.{Float}
+use Rattle.refusal.specs.Said.{accepted}
+use Rattle.refusal.specs.Outcome.{Outcome}
+use Rattle.vector.specs.declared.Vector.{Vector}
+use Rattle.path.specs.Laid.{Out, out, pushAll, joined, nonEmpty, putPoints}
+use Rattle.path.specs.Call.{Lent, left, laid}
+use Rattle.path.proofs.Pushes.{all-laid, front}
+use Rattle.path.proofs.Points.{points-lie}
+
+-- what a call answers and leaves that wrote as far as o says
+abbrev pub wrote : List ℕ → Out Float → Outcome Lent
+wrote more o = left (accepted (o .place .points ∷ o .place .starts ∷ more)) (o .buf) (o .starts)
+
+pub wrote-all : (more : List ℕ) (ss : List (List Vector)) (op : List Float) (os : List ℕ) (q : Out Float) → q ≡ pushAll putPoints (out op os front) ss
+    → length (joined ss) * 3 ≤ length op → length (nonEmpty ss) ≤ length os → wrote more q ≡ laid more ss op os
+unfolding laid
+wrote-all more ss op os q e hp hs = ap (wrote more) (all-laid points-lie op os ss q e hp hs)
