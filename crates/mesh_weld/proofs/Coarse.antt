@@ -1,8 +1,8 @@
--- The coarse cells in which the three cells about one lie, one after the other. Assumes nothing.
+-- The 27 cells about one lie in eight coarse cells. Assumes nothing.
 use Rattle.path.specs.Strokes.{pointAt}
-use mathlib.Core.Path.{_≡_, refl}
+use mathlib.Core.Path.{_≡_, refl, ap, _∙_, subst, sym}
 use mathlib.Core.Bool.{Bool, true, false}
-use mathlib.Core.List.{List}
+use mathlib.Core.List.{List, [], _∷_}
 use Prim.Native.Nat.{ℕ, _+_, _-_, _/_, _≤_, _<_}
 use native.Mathlib.Omega.{arith}
 use native.Mathlib.Numerals.{lt-of-le-of-ne}
@@ -10,53 +10,42 @@ use lib.Dec.{eqb}
 use lib.Ieee.{Float}
 use borrow.Author.Tests.{eqb-true, eqb-false}
 use Rattle.mesh_weld.specs.declared.Cube.{Cube}
-use Rattle.mesh_weld.specs.Table.{key, cube, cubeOf, coarseOf, coarseAt, Least, InCoarse, Beside, InColumn, InLayer, About}
+use Rattle.mesh_weld.specs.Table.{key, cube, cubeOf, coarseOf, coarseAt, eightFrom, Beside, About}
 
--- those of s whose coarse cell is below n
-pub record Passed (s : ℕ → Type 0) (w : ℕ → ℕ) (n i : ℕ) : Type 0 where
-  pub has : s i
-  pub before : w i < n
+-- the first of two, or the other
+data Either (l w : ℕ) : Type 0 where
+  low : w ≡ l → Either l w
+  high : w ≡ l + 1 → Either l w
 
-module _ (f : ℕ → ℕ) (k first : ℕ) (s : ℕ → Type 0) (w : ℕ → ℕ) where
-  pub passed-none : (n : ℕ) → ((i : ℕ) → s i → n ≤ w i) → Least (Passed s w n) f k first first
-  passed-none n g = record { below = omega arith; all = λ i l h. absurd (let a = g i (h .has) in omega (arith, h .before)); to = λ c l h. l }
+either : (x w : ℕ) → 0 < x → Beside x w → Either ((x - 1) / 2) (w / 2)
+either x w some b = go (eqb (w / 2) ((x - 1) / 2)) refl
+  where
+    go : (t : Bool) → eqb (w / 2) ((x - 1) / 2) ≡ t → Either ((x - 1) / 2) (w / 2)
+    go true t = low (eqb-true _ _ t)
+    go false t = high (let d : (x - 1) / 2 < w / 2 = lt-of-le-of-ne (omega (arith, b .low)) (λ e. eqb-false (w / 2) ((x - 1) / 2) t (sym e)) in omega (arith, b .high))
 
-  pub passed-more : (n r t : ℕ) (q : ℕ → Type 0) → Least (Passed s w n) f k first r → Least q f k r t → ((i : ℕ) → s i → w i ≡ n → q i) → Least (Passed s w (n + 1)) f k first t
-  passed-more n r t q a b g =
-      record { below = omega (arith, a .below, b .below); all = λ i l h. go i l h (eqb (w i) n) refl; to = λ c l h. b .to c (a .to c l h) h }
-    where
-      go : (i : ℕ) → i < k → Passed s w (n + 1) i → (u : Bool) → eqb (w i) n ≡ u → t ≤ f i
-      go i l h true u = b .all i l (g i (h .has) (eqb-true _ _ u))
-      go i l h false u =
-          let d = h .before in
-          let z = a .all i l (record { has = h .has; before = lt-of-le-of-ne (omega arith) (eqb-false _ _ u) }) in
-          omega (arith, b .below)
+-- a coarse cell is one of a list
+pub data Among (q : Cube) : List Cube → Type 0 where
+  here : {home : Cube} {homes : List Cube} → q ≡ home → Among q (home ∷ homes)
+  after : {home : Cube} {homes : List Cube} → Among q homes → Among q (home ∷ homes)
 
-  pub passed-all : (n r : ℕ) → Least (Passed s w n) f k first r → ((i : ℕ) → s i → w i < n) → Least s f k first r
-  passed-all n r a g = record { below = a .below; all = λ i l h. a .all i l (record { has = h; before = g i h }); to = a .to }
+module _ (x y z a b c : ℕ) where
+  same : {x′ y′ z′ : ℕ} → a ≡ x′ → b ≡ y′ → c ≡ z′ → cube a b c ≡ cube x′ y′ z′
+  same e f g = rw (e, f, g) refl
 
-pub from : (x w : ℕ) → Beside x w → (x - 1) / 3 ≤ w / 3
-from x w b = omega (arith, b .low)
+  one-of : Either x a → Either y b → Either z c → Among (cube a b c) (eightFrom x y z)
+  one-of (low e) (low f) (low g) = here (same e f g)
+  one-of (low e) (low f) (high g) = after (here (same e f g))
+  one-of (low e) (high f) (low g) = after (after (here (same e f g)))
+  one-of (low e) (high f) (high g) = after (after (after (here (same e f g))))
+  one-of (high e) (low f) (low g) = after (after (after (after (here (same e f g)))))
+  one-of (high e) (low f) (high g) = after (after (after (after (after (here (same e f g))))))
+  one-of (high e) (high f) (low g) = after (after (after (after (after (after (here (same e f g)))))))
+  one-of (high e) (high f) (high g) = after (after (after (after (after (after (after (here (same e f g))))))))
 
-pub until : (x w n : ℕ) → Beside x w → (x + 1) / 3 < n → w / 3 < n
-until x w n b l = omega (arith, b .high)
-
-module _ (vs : List Float) (c : Cube) where
-  abbrev pub coarse-x : ℕ → ℕ
-  coarse-x i = key (pointAt vs i .x) / 3
-
-  abbrev pub coarse-y : ℕ → ℕ
-  coarse-y i = key (pointAt vs i .y) / 3
-
-  abbrev pub coarse-z : ℕ → ℕ
-  coarse-z i = key (pointAt vs i .z) / 3
-
-  pub in-coarse : (x y z i : ℕ) → InColumn vs c x y i → key (pointAt vs i .z) / 3 ≡ z → InCoarse vs (cube x y z) i
-  unfolding coarseAt coarseOf cubeOf
-  in-coarse x y z i h g = record { is = rw (h .x, h .y, g) }
-
-  pub in-column : (x y i : ℕ) → InLayer vs c x i → key (pointAt vs i .y) / 3 ≡ y → InColumn vs c x y i
-  in-column x y i h e = record { x = h .x; y = e; z = h .z }
-
-  pub in-layer : (x i : ℕ) → About vs c i → key (pointAt vs i .x) / 3 ≡ x → InLayer vs c x i
-  in-layer x i h e = record { x = e; y = h .y; z = h .z }
+pub in-eight : (vs : List Float) (c : Cube) (i : ℕ) → 0 < c .x → 0 < c .y → 0 < c .z → About vs c i
+    → Among (coarseAt vs i) (eightFrom ((c .x - 1) / 2) ((c .y - 1) / 2) ((c .z - 1) / 2))
+unfolding coarseAt coarseOf cubeOf
+in-eight vs c i sx sy sz h =
+    let v = pointAt vs i in
+    one-of _ _ _ _ _ _ (either (c .x) (key (v .x)) sx (h .x)) (either (c .y) (key (v .y)) sy (h .y)) (either (c .z) (key (v .z)) sz (h .z))

@@ -15,7 +15,7 @@ use Rattle.mesh_weld.specs.declared.Cube.{Cube}
 use Rattle.mesh_weld.specs.declared.Found.{Found}
 use Rattle.mesh_weld.specs.declared.Found.the-variants.{At, Nothing}
 use Rattle.mesh_weld.specs.Weld.{near, orElse, oldest, find}
-use Rattle.mesh_weld.specs.Table.{key, cubeOf, Counted, placeOf, rankOf, scoreOf, scoreAt, Least, Beside, About}
+use Rattle.mesh_weld.specs.Table.{key, cubeOf, Counted, placeOf, rankOf, scoreOf, top, scoreAt, Least, Beside, About}
 use Rattle.mesh_weld.proofs.Finds.{hits, lookIn, threeOf, find-by}
 
 -- the place of a cell among three
@@ -34,7 +34,7 @@ spot w x = go (leb x (w + 1)) refl (leb w (x + 1)) refl
 
 -- what a vertex is worth
 data Worth (p : Vector) (c : Cube) (v : Vector) (i n : ℕ) : Type 0 where
-  far : near p v ≡ false → n ≡ 28311552 → Worth p c v i n
+  far : near p v ≡ false → n ≡ top → Worth p c v i n
   close : near p v ≡ true → (x y z : ℕ) → Spot (key (v .x)) (c .x) x → Spot (key (v .y)) (c .y) y → Spot (key (v .z)) (c .z) z
       → n ≡ (x * 9 + y * 3 + z) * 1048576 + i → Worth p c v i n
 
@@ -43,7 +43,7 @@ unfolding scoreOf rankOf
 worth p c v i = go (near p v) refl
   where
     go : (t : Bool) → near p v ≡ t
-        → Worth p c v i (cond t ((placeOf (key (v .x)) (c .x) * 9 + placeOf (key (v .y)) (c .y) * 3 + placeOf (key (v .z)) (c .z)) * 1048576 + i) 28311552)
+        → Worth p c v i (cond t ((placeOf (key (v .x)) (c .x) * 9 + placeOf (key (v .y)) (c .y) * 3 + placeOf (key (v .z)) (c .z)) * 1048576 + i) top)
     go true t = close t _ _ _ (spot (key (v .x)) (c .x)) (spot (key (v .y)) (c .y)) (spot (key (v .z)) (c .z)) refl
     go false t = far t refl
 
@@ -188,7 +188,7 @@ module _ (vs : List Float) (k : ℕ) (p : Vector) (c : Cube) (small : k ≤ 1048
       among-three (scoreAt vs p c) k (a * 9437184) 3145728 (λ y. threeOf (λ z. lookIn vs k p x y z) (c .z)) (c .y)
       (at 0 (c .y - 1) (omega (arith, counted .y-low)) (omega arith) _ (omega arith)) (at 1 (c .y) (omega arith) (omega arith) _ (omega arith)) (at 2 (c .y + 1) (omega arith) (omega arith) _ (omega arith))
 
-  pub among-all : Among (scoreAt vs p c) k 0 28311552 (threeOf (λ x. threeOf (λ y. threeOf (λ z. lookIn vs k p x y z) (c .z)) (c .y)) (c .x))
+  pub among-all : Among (scoreAt vs p c) k 0 top (threeOf (λ x. threeOf (λ y. threeOf (λ z. lookIn vs k p x y z) (c .z)) (c .y)) (c .x))
   among-all =
       let at : (a : ℕ) (x : ℕ) → x + 1 ≡ c .x + a → a ≤ 2 → (l : ℕ) → a * 9437184 ≡ l
       → Among (scoreAt vs p c) k l (l + 9437184) (threeOf (λ y. threeOf (λ z. lookIn vs k p x y z) (c .z)) (c .y)) =
@@ -200,13 +200,13 @@ module _ (vs : List Float) (k : ℕ) (p : Vector) (c : Cube) (small : k ≤ 1048
 
 -- ---- the least score is the vertex found
 unfoldable pub foundAt : ℕ → Found
-foundAt r = cond (ltb r 28311552) (At (r % 1048576)) Nothing
+foundAt r = cond (ltb r top) (At (r % 1048576)) Nothing
 
-about : (vs : List Float) (p : Vector) (c : Cube) (i : ℕ) → scoreAt vs p c i < 28311552 → About vs c i
+about : (vs : List Float) (p : Vector) (c : Cube) (i : ℕ) → scoreAt vs p c i < top → About vs c i
 unfolding scoreAt
 about vs p c i l = go (worth p c (pointAt vs i) i) l
   where
-    go : {n : ℕ} → Worth p c (pointAt vs i) i n → n < 28311552 → About vs c i
+    go : {n : ℕ} → Worth p c (pointAt vs i) i n → n < top → About vs c i
     go (far e o) l = absurd (omega arith)
     go (close e r s t (off f g) sy sz o) l = absurd (omega arith)
     go (close e r s t (beside f1 f2 f3) (off f g) sz o) l = absurd (omega arith)
@@ -214,48 +214,48 @@ about vs p c i l = go (worth p c (pointAt vs i) i) l
     go (close e r s t (beside f1 f2 f3) (beside g1 g2 g3) (beside h1 h2 h3) o) l =
         record { x = record { low = f1; high = f2 }; y = record { low = g1; high = g2 }; z = record { low = h1; high = h2 } }
 
-number : (vs : List Float) (p : Vector) (c : Cube) (i : ℕ) → i < 1048576 → scoreAt vs p c i < 28311552 → scoreAt vs p c i % 1048576 ≡ i
+number : (vs : List Float) (p : Vector) (c : Cube) (i : ℕ) → i < 1048576 → scoreAt vs p c i < top → scoreAt vs p c i % 1048576 ≡ i
 unfolding scoreAt
 number vs p c i m l = go (worth p c (pointAt vs i) i) l
   where
-    go : {n : ℕ} → Worth p c (pointAt vs i) i n → n < 28311552 → n % 1048576 ≡ i
+    go : {n : ℕ} → Worth p c (pointAt vs i) i n → n < top → n % 1048576 ≡ i
     go (far e o) l = absurd (omega arith)
     go (close e r s t sx sy sz o) l = omega arith
 
-module _ (vs : List Float) (p : Vector) (c : Cube) (k r : ℕ) (small : k ≤ 1048576) (w : Least (About vs c) (scoreAt vs p c) k 28311552 r) where
+module _ (vs : List Float) (p : Vector) (c : Cube) (k r : ℕ) (small : k ≤ 1048576) (w : Least (About vs c) (scoreAt vs p c) k top r) where
   under : (i : ℕ) → i < k → r ≤ scoreAt vs p c i
-  under i m = go (ltb (scoreAt vs p c i) 28311552) refl
+  under i m = go (ltb (scoreAt vs p c i) top) refl
     where
-      go : (t : Bool) → ltb (scoreAt vs p c i) 28311552 ≡ t → r ≤ scoreAt vs p c i
+      go : (t : Bool) → ltb (scoreAt vs p c i) top ≡ t → r ≤ scoreAt vs p c i
       go true t = w .all i m (about vs p c i (ltb-true _ _ t))
-      go false t = omega (arith, ltb-false (scoreAt vs p c i) 28311552 t, w .below)
+      go false t = omega (arith, ltb-false (scoreAt vs p c i) top t, w .below)
 
-  least-is : (f : Found) → Among (scoreAt vs p c) k 0 28311552 f → foundAt r ≡ f
+  least-is : (f : Found) → Among (scoreAt vs p c) k 0 top f → foundAt r ≡ f
   unfolding foundAt
   least-is (At i) h =
       let low = under i (h .0) in
       let high = w .to (scoreAt vs p c i) (omega (arith, h .2)) (λ j m. h .3 j m (omega arith)) in
       let e : r ≡ scoreAt vs p c i = omega arith in
       let n = number vs p c i (omega (arith, h .0)) (h .2) in
-      rw (lt-ltb r 28311552 (omega (arith, h .2)), e, n)
+      rw (lt-ltb r top (omega (arith, h .2)), e, n)
   least-is Nothing h =
-      let high = w .to 28311552 (omega arith) (λ j m. h j m (omega arith)) in
-      rw (le-ltb r 28311552 high)
+      let high = w .to top (omega arith) (λ j m. h j m (omega arith)) in
+      rw (le-ltb r top high)
 
-pub found : (vs : List Float) (p : Vector) (c : Cube) (k r : ℕ) → k ≤ 1048576 → c ≡ cubeOf p → Counted c → Least (About vs c) (scoreAt vs p c) k 28311552 r
+pub found : (vs : List Float) (p : Vector) (c : Cube) (k r : ℕ) → k ≤ 1048576 → c ≡ cubeOf p → Counted c → Least (About vs c) (scoreAt vs p c) k top r
     → foundAt r ≡ find vs k p
 unfolding cubeOf
 found vs p c k r small e counted w =
     least-is vs p c k r small w _ (among-all vs k p c small counted)
     ∙ find-by vs k p (c .x) (c .y) (c .z) (ap (λ (q : Cube). q .x) e) (ap (λ (q : Cube). q .y) e) (ap (λ (q : Cube). q .z) e)
 
-pub found-at : (r : ℕ) → r < 28311552 → At (r % 1048576) ≡ foundAt r
+pub found-at : (r : ℕ) → r < top → At (r % 1048576) ≡ foundAt r
 unfolding foundAt
-found-at r l = rw (lt-ltb r 28311552 l)
+found-at r l = rw (lt-ltb r top l)
 
-pub found-none : (r : ℕ) → 28311552 ≤ r → Nothing ≡ foundAt r
+pub found-none : (r : ℕ) → top ≤ r → Nothing ≡ foundAt r
 unfolding foundAt
-found-none r l = rw (le-ltb r 28311552 l)
+found-none r l = rw (le-ltb r top l)
 
 -- ---- the tests of the code
 module _ (p : Vector) (c : Cube) (v : Vector) (i : ℕ) where
@@ -263,6 +263,6 @@ module _ (p : Vector) (c : Cube) (v : Vector) (i : ℕ) where
   unfolding scoreOf
   score-near n = rw n
 
-  pub score-far : near p v ≡ false → 28311552 ≡ scoreOf p c v i
+  pub score-far : near p v ≡ false → top ≡ scoreOf p c v i
   unfolding scoreOf
   score-far n = rw n

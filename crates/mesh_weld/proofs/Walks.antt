@@ -1,12 +1,18 @@
 -- The way of a coarse cell passes all that are in it, and ends. Assumes nothing.
-use mathlib.Core.Path.{_≡_, refl, sym, _∙_, subst}
-use mathlib.Core.List.{List}
-use Prim.Native.Nat.{ℕ, _+_, _-_, _*_, _≤_, _<_}
+use mathlib.Core.Path.{_≡_, refl, sym, ap, _∙_, subst}
+use mathlib.Core.Bool.{Bool, true, false, cond}
+use mathlib.Core.List.{List, [], _∷_, map}
+use Prim.Native.Nat.{ℕ, zero, suc, _+_, _-_, _*_, _≤_, _<_}
 use native.Mathlib.Omega.{arith}
 use lib.ListN.{getD}
+use lib.Dec.{eqb, ltb}
+use borrow.Author.Tests.{eqb-true, eqb-false, eq-eqb, ne-eqb, ltb-true, ltb-false}
+use Rattle.refusal.specs.Each.{Each}
 use lib.Ieee.{Float}
 use Rattle.mesh_weld.specs.declared.Cube.{Cube}
-use Rattle.mesh_weld.specs.Table.{coarseAt, bucketOf, turnedOf, linkOf, On, Ends, Older, Table, Lesser, Least, InCoarse}
+use Rattle.mesh_weld.specs.declared.Way.{Way}
+use Rattle.mesh_weld.proofs.Coarse.{Among, here, after}
+use Rattle.mesh_weld.specs.Table.{coarseAt, bucketOf, turnedOf, linkOf, On, Ends, Older, Table, wayAt, wayOf, onwardOf, lesserOf, worthOf, allWorth, nexts, NoMore, Least}
 
 -- a link is a slot further on than the vertex's own, and one of the table's
 module _ (s : List ℕ) (m k at next : ℕ) (o : Older s m k) (e : next ≡ getD s at 0) (some : next ≡ 0 → ⊥) where
@@ -22,57 +28,248 @@ module _ (s : List ℕ) (m k at next : ℕ) (o : Older s m k) (e : next ≡ getD
   pub within : (q : Cube) → linkOf (next - 1) q m < m + k * 2
   within q = omega (arith, number)
 
-module _ (vs : List Float) (s : List ℕ) (f : ℕ → ℕ) (m k : ℕ) (home : Cube) (first : ℕ) where
+-- what a slot holds is the number plus 1 of one of the k vertices, or 0
+pub few : (s : List ℕ) (m k at : ℕ) → Older s m k → getD s at 0 ≤ k
+few s m k at o = go (getD s at 0) refl
+  where
+    go : (n : ℕ) → getD s at 0 ≡ n → n ≤ k
+    go zero e = omega arith
+    go (suc v) e = let l = o .below at v (let r : suc v ≡ v + 1 = omega arith in e ∙ r) in omega arith
+
+-- the lesser of two numbers
+module _ (a b : ℕ) where
+  pub data Lesser (r : ℕ) : Type 0 where
+    one : a < b → r ≡ a → Lesser r
+    other : b ≤ a → r ≡ b → Lesser r
+
+  pub lesser : Lesser (lesserOf a b)
+  unfolding lesserOf
+  lesser = go (ltb a b) refl
+    where
+      go : (t : Bool) → ltb a b ≡ t → Lesser (cond t a b)
+      go true t = one (ltb-true a b t) refl
+      go false t = other (ltb-false a b t) refl
+
+-- what the code does by its tests
+module _ (s : List ℕ) (m : ℕ) (w : Way) where
+  pub on-ended : w .next ≡ 0 → w ≡ onwardOf s m w
+  unfolding onwardOf
+  on-ended e = rw (eq-eqb (w .next) 0 e)
+
+  pub on-met : (w .next ≡ 0 → ⊥) → (at : ℕ) (q : Cube) → at ≡ linkOf (w .next - 1) (w .q) m → q ≡ turnedOf (w .q) → wayAt (getD s at 0) q ≡ onwardOf s m w
+  unfolding onwardOf
+  on-met some at q e g = rw (ne-eqb (w .next) 0 some, e, g)
+
+module _ (f : ℕ → ℕ) (best : ℕ) (w : Way) where
+  pub worth-ended : w .next ≡ 0 → best ≡ worthOf f best w
+  unfolding worthOf
+  worth-ended e = rw (eq-eqb (w .next) 0 e)
+
+  pub worth-met : (w .next ≡ 0 → ⊥) → lesserOf (f (w .next - 1)) best ≡ worthOf f best w
+  unfolding worthOf
+  worth-met some = rw (ne-eqb (w .next) 0 some)
+
+-- what a way has before it and what it does: an end, or a vertex
+module _ (s : List ℕ) (f : ℕ → ℕ) (m best : ℕ) (w : Way) where
+  pub data Step (r : ℕ) (v : Way) : Type 0 where
+    ended : w .next ≡ 0 → r ≡ best → v ≡ w → Step r v
+    met : (w .next ≡ 0 → ⊥) → r ≤ f (w .next - 1) → r ≤ best → ((c : ℕ) → c ≤ f (w .next - 1) → c ≤ best → c ≤ r)
+        → v ≡ wayAt (getD s (linkOf (w .next - 1) (w .q) m) 0) (turnedOf (w .q)) → Step r v
+
+  pub step : Step (worthOf f best w) (onwardOf s m w)
+  unfolding worthOf onwardOf
+  step = go (eqb (w .next) 0) refl (lesser (f (w .next - 1)) best)
+    where
+      go : (t : Bool) → eqb (w .next) 0 ≡ t → Lesser (f (w .next - 1)) best (lesserOf (f (w .next - 1)) best)
+          → Step (cond t best (lesserOf (f (w .next - 1)) best)) (cond t w (wayAt (getD s (linkOf (w .next - 1) (w .q) m) 0) (turnedOf (w .q))))
+      go true t l = ended (eqb-true (w .next) 0 t) refl refl
+      go false t (one l e) = met (eqb-false (w .next) 0 t) (omega arith) (omega arith) (λ c p q. omega arith) refl
+      go false t (other l e) = met (eqb-false (w .next) 0 t) (omega arith) (omega arith) (λ c p q. omega arith) refl
+
+module _ (vs : List Float) (s : List ℕ) (f : ℕ → ℕ) (m k : ℕ) where
   -- vertex i is passed, or ahead
   pub data Met (best at : ℕ) (q : Cube) (i : ℕ) : Type 0 where
     passed : best ≤ f i → Met best at q i
     ahead : On s m i at q → Met best at q i
 
-  pub record Walk (best at next : ℕ) (q : Cube) : Type 0 where
-    pub slot : next ≡ getD s at 0
-    pub inside : at < m + k * 2
+  -- the way of a coarse cell as far as it is walked: what is in that cell is passed, or ahead
+  pub record Walk (home : Cube) (best : ℕ) (w : Way) : Type 0 where
+    pub at : ℕ
+    pub slot : w .next ≡ getD s at 0
+    pub all : (i : ℕ) → i < k → coarseAt vs i ≡ home → Met best at (w .q) i
+
+  walk-start : (home : Cube) (best : ℕ) → Table s (coarseAt vs) m k → Walk home best (wayOf s m home)
+  unfolding wayOf
+  walk-start home best t =
+      record { at = bucketOf home m; slot = refl; all = λ i h d. ahead (subst (λ (q : Cube). On s m i (bucketOf q m) q) d (t .held i h)) }
+
+  -- less is known to be passed
+  lower : {best now at : ℕ} {q : Cube} {i : ℕ} → now ≤ best → Met best at q i → Met now at q i
+  lower l (passed h) = passed (omega arith)
+  lower l (ahead h) = ahead h
+
+  walk-lower : (home : Cube) (best now : ℕ) (w : Way) → now ≤ best → Walk home best w → Walk home now w
+  walk-lower home best now w l h = record { at = h .at; slot = h .slot; all = λ i d e. lower l (h .all i d e) }
+
+  walk-on : (home : Cube) (best now : ℕ) (w : Way) → Walk home best w → Step s f m best w now (onwardOf s m w) → Walk home now (onwardOf s m w)
+  walk-on home best now w h (ended e r v) = rw (v, r) h
+  walk-on home best now w h (met some low le to v) =
+      rw v (record { at = linkOf (w .next - 1) (w .q) m; slot = refl; all = λ i d e. go i (h .all i d e) })
+    where
+      go : (i : ℕ) → Met best (h .at) (w .q) i → Met now (linkOf (w .next - 1) (w .q) m) (turnedOf (w .q)) i
+      go i (passed d) = passed (omega arith)
+      go i (ahead (On.here d)) =
+          let e : w .next - 1 ≡ i = omega (arith, h .slot) in
+          passed (subst (λ (x : ℕ). now ≤ f x) e low)
+      go i (ahead (On.past u d r)) =
+          let e : u ≡ w .next - 1 = omega (arith, h .slot) in
+          ahead (subst (λ (x : ℕ). On s m i (linkOf x (w .q) m) (turnedOf (w .q))) e r)
+
+  walk-end : (home : Cube) (best : ℕ) (w : Way) → Walk home best w → w .next ≡ 0 → (i : ℕ) → i < k → coarseAt vs i ≡ home → best ≤ f i
+  walk-end home best w h e i d c = go (h .all i d c)
+    where
+      go : Met best (h .at) (w .q) i → best ≤ f i
+      go (passed d) = d
+      go (ahead (On.here d)) = absurd (omega (arith, h .slot))
+      go (ahead (On.past u d r)) = absurd (omega (arith, h .slot))
+
+  -- how many vertices may still come: those younger than the one ahead, and that one
+  unfoldable pub left : Way → ℕ
+  left w = cond (eqb (w .next) 0) 0 (k + 1 - w .next)
+
+  left-ended : (w : Way) → w .next ≡ 0 → left w ≡ 0
+  unfolding left
+  left-ended w e = rw e
+
+  left-le : (w : Way) → left w ≤ k + 1 - w .next
+  unfolding left
+  left-le w = go (eqb (w .next) 0)
+    where
+      go : (t : Bool) → cond t 0 (k + 1 - w .next) ≤ k + 1 - w .next
+      go true = omega arith
+      go false = omega arith
+
+  left-met : (w : Way) → (w .next ≡ 0 → ⊥) → left w ≡ k + 1 - w .next
+  unfolding left
+  left-met w some = rw (ne-eqb (w .next) 0 some)
+
+  -- the measure
+  abbrev pub lefts : List Way → ℕ
+  lefts [] = 0
+  lefts (w ∷ ws) = left w + lefts ws
+
+  -- several ways side by side
+  pub data Walks (best : ℕ) : List Cube → List Way → Type 0 where
+    none : Walks best [] []
+    more : {home : Cube} {homes : List Cube} {w : Way} {ws : List Way} → Walk home best w → Walks best homes ws → Walks best (home ∷ homes) (w ∷ ws)
+
+  pub walks-start : (best : ℕ) → Table s (coarseAt vs) m k → (homes : List Cube) → Walks best homes (map (wayOf s m) homes)
+  walks-start best t [] = none
+  walks-start best t (home ∷ homes) = more (walk-start home best t) (walks-start best t homes)
+
+  walks-lower : {homes : List Cube} {ws : List Way} (best now : ℕ) → now ≤ best → Walks best homes ws → Walks now homes ws
+  walks-lower best now l none = none
+  walks-lower best now l (more {home} {homes} {w} {ws} h r) = more (walk-lower home best now w l h) (walks-lower best now l r)
+
+  step-le : {best r : ℕ} {w v : Way} → Step s f m best w r v → r ≤ best
+  step-le (ended e r v) = omega arith
+  step-le (met some low le to v) = le
+
+  pub all-le : (ws : List Way) (best : ℕ) → allWorth f best ws ≤ best
+  all-le [] best = omega arith
+  all-le (w ∷ ws) best = omega (arith, all-le ws (worthOf f best w), step-le (step s f m best w))
+
+  pub walks-on : (homes : List Cube) (ws : List Way) (best : ℕ) → Walks best homes ws → Walks (allWorth f best ws) homes (map (onwardOf s m) ws)
+  walks-on [] [] best none = none
+  walks-on (home ∷ homes) (w ∷ ws) best (more h r) =
+      let now = worthOf f best w in
+      more (walk-lower home now (allWorth f now ws) (onwardOf s m w) (all-le ws now) (walk-on home best now w h (step s f m best w)))
+      (walks-on homes ws now (walks-lower best now (step-le (step s f m best w)) r))
+
+  -- where all have ended, all that is in one of the coarse cells is passed
+  pub walks-end : {homes : List Cube} {ws : List Way} (best : ℕ) → Walks best homes ws → nexts ws ≡ 0 → (i : ℕ) → i < k → Among (coarseAt vs i) homes → best ≤ f i
+  walks-end best (more {home} {homes} {w} h r) e i l (here q) = walk-end home best w h (omega arith) i l q
+  walks-end best (more h r) e i l (after a) = walks-end best r (omega arith) i l a
+
+  module _ (o : Older s m k) where
+    walk-few : (home : Cube) (best : ℕ) (w : Way) → Walk home best w → w .next ≤ k
+    walk-few home best w h = omega (arith, h .slot, few s m k (h .at) o)
+
+    -- on goes a way to a younger vertex, or to its end
+    left-less : (home : Cube) (best : ℕ) (w : Way) → Walk home best w → (w .next ≡ 0 → ⊥) → left (onwardOf s m w) < left w
+    left-less home best w h some = go (step s f m best w)
+      where
+        on : (v : Way) (n : ℕ) → v ≡ wayAt (getD s (linkOf (w .next - 1) (w .q) m) 0) (turnedOf (w .q)) → getD s (linkOf (w .next - 1) (w .q) m) 0 ≡ n → left v < left w
+        on v zero e z =
+            let a = left-ended v (rw e z) in
+            let b = left-met w some in
+            omega (arith, walk-few home best w h)
+        on v (suc u) e z =
+            let a = left-le v in
+            let r : getD s (linkOf (w .next - 1) (w .q) m) 0 ≡ u + 1 = let g : suc u ≡ u + 1 = omega arith in z ∙ g in
+            let n : v .next ≡ u + 1 = rw e r in
+            let b = left-met w some in
+            omega (arith, o .before (linkOf (w .next - 1) (w .q) m) u r, o .below (linkOf (w .next - 1) (w .q) m) u r)
+
+        go : {r : ℕ} {v : Way} → Step s f m best w r v → left v < left w
+        go (ended e r v) = absurd (some e)
+        go {r} {v} (met d low le to e) = on v _ e refl
+
+    left-on : (home : Cube) (best : ℕ) (w : Way) → Walk home best w → (left (onwardOf s m w) ≤ left w) × ((w .next ≡ 0 → ⊥) → left (onwardOf s m w) < left w)
+    left-on home best w h = (go (step s f m best w), left-less home best w h)
+      where
+        go : {n : ℕ} → Step s f m best w n (onwardOf s m w) → left (onwardOf s m w) ≤ left w
+        go (ended e d v) = let a = ap left v in omega arith
+        go (met some low le to v) = omega (arith, left-less home best w h some)
+
+    lefts-le : {homes : List Cube} {ws : List Way} (best : ℕ) → Walks best homes ws → lefts (map (onwardOf s m) ws) ≤ lefts ws
+    lefts-le best none = omega arith
+    lefts-le best (more {home} {homes} {w} h r) = omega (arith, lefts-le best r, left-on home best w h .0)
+
+    pub lefts-less : {homes : List Cube} {ws : List Way} (best : ℕ) → Walks best homes ws → (nexts ws ≡ 0 → ⊥) → lefts (map (onwardOf s m) ws) < lefts ws
+    lefts-less best none some = absurd (some refl)
+    lefts-less best (more {home} {homes} {w} {ws} h r) some =
+        go (eqb (w .next) 0) refl (left-on home best w h) (lefts-le best r) (lefts-less best r)
+      where
+        go : (t : Bool) → eqb (w .next) 0 ≡ t → (left (onwardOf s m w) ≤ left w) × ((w .next ≡ 0 → ⊥) → left (onwardOf s m w) < left w)
+            → lefts (map (onwardOf s m) ws) ≤ lefts ws → ((nexts ws ≡ 0 → ⊥) → lefts (map (onwardOf s m) ws) < lefts ws)
+            → left (onwardOf s m w) + lefts (map (onwardOf s m) ws) < left w + lefts ws
+        go true t a b rest = let e = eqb-true (w .next) 0 t in omega (arith, a .0, rest (λ z. some (omega arith)))
+        go false t a b rest = omega (arith, a .1 (eqb-false (w .next) 0 t))
+
+    pub all-to : (homes : List Cube) (ws : List Way) (best now c : ℕ) → Walks now homes ws → c ≤ best → ((i : ℕ) → i < k → c ≤ f i) → c ≤ allWorth f best ws
+    all-to [] [] best now c none l g = l
+    all-to (home ∷ homes) (w ∷ ws) best now c (more h r) l g = all-to homes ws (worthOf f best w) now c r (go (step s f m best w)) g
+      where
+        go : {r : ℕ} {v : Way} → Step s f m best w r v → c ≤ r
+        go (ended e d v) = omega arith
+        go (met some low le to v) = to c (g (w .next - 1) (omega (arith, walk-few home now w h))) l
+
+    pub walks-few : (n : ℕ) → k ≤ n → {homes : List Cube} {ws : List Way} {best : ℕ} → Walks best homes ws → Each (NoMore n) ws
+    walks-few n l none = tt
+    walks-few n l {best = best} (more {home} {homes} {w} h r) = (omega (arith, walk-few home best w h), walks-few n l r)
+
+  -- what `look` keeps: the ways as far as they are walked, and the least of all that is passed
+  pub record Looked (homes : List Cube) (first best : ℕ) (ws : List Way) : Type 0 where
+    pub walks : Walks best homes ws
     pub below : best ≤ first
-    pub all : (i : ℕ) → i < k → InCoarse vs home i → Met best at q i
     pub to : (c : ℕ) → c ≤ first → ((i : ℕ) → i < k → c ≤ f i) → c ≤ best
 
-  pub walk-start : (at next : ℕ) → Table s (coarseAt vs) m k → at ≡ bucketOf home m → at < m → next ≡ getD s at 0 → Walk first at next home
-  walk-start at next t e l o =
+  pub looked-start : Table s (coarseAt vs) m k → (homes : List Cube) (first : ℕ) → Looked homes first first (map (wayOf s m) homes)
+  looked-start t homes first = record { walks = walks-start first t homes; below = omega arith; to = λ c l g. l }
+
+  pub looked-on : Older s m k → (homes : List Cube) (first best : ℕ) (ws : List Way) → Looked homes first best ws
+      → Looked homes first (allWorth f best ws) (map (onwardOf s m) ws)
+  looked-on o homes first best ws h =
       record {
-        slot = o;
-        inside = omega arith;
-        below = omega arith;
-        all = λ i h d. ahead (rw e (subst (λ (q : Cube). On s m i (bucketOf q m) q) (d .is) (t .held i h)));
-        to = λ c h j. h;
+        walks = walks-on homes ws best (h .walks);
+        below = omega (arith, all-le ws best, h .below);
+        to = λ c l g. all-to o homes ws best best c (h .walks) (h .to c l g) g;
       }
 
-  module _ (best at next : ℕ) (q : Cube) (w : Walk best at next q) (o : Older s m k) (some : next ≡ 0 → ⊥) where
-    pub walk-turn : (now : ℕ) → Lesser (f (next - 1)) best now → (at′ : ℕ) → at′ ≡ linkOf (next - 1) q m → (q′ : Cube) → q′ ≡ turnedOf q
-        → Walk now at′ (getD s at′ 0) q′
-    walk-turn now l at′ ea q′ eq =
-        record {
-          slot = refl;
-          inside = omega (arith, within s m k at next o (w .slot) some q);
-          below = omega (arith, w .below, l .right);
-          all = λ i h d. rw (ea, eq) (go i (w .all i h d));
-          to = λ c h j. l .to c (j (next - 1) (number s m k at next o (w .slot) some)) (w .to c h j);
-        }
-      where
-        go : (i : ℕ) → Met best at q i → Met now (linkOf (next - 1) q m) (turnedOf q) i
-        go i (passed h) = passed (omega (arith, l .right))
-        go i (ahead (On.here h)) =
-            let e : next - 1 ≡ i = omega (arith, w .slot) in
-            passed (subst (λ (x : ℕ). now ≤ f x) e (l .left))
-        go i (ahead (On.past u h r)) =
-            let e : u ≡ next - 1 = omega (arith, w .slot) in
-            ahead (subst (λ (x : ℕ). On s m i (linkOf x q m) (turnedOf q)) e r)
-
-  pub walk-end : (best at next : ℕ) (q : Cube) → Walk best at next q → next ≡ 0 → Least (InCoarse vs home) f k first best
-  walk-end best at next q w e = record { below = w .below; all = λ i h d. go i (w .all i h d); to = w .to }
-    where
-      go : (i : ℕ) → Met best at q i → best ≤ f i
-      go i (passed h) = h
-      go i (ahead (On.here h)) = absurd (omega (arith, w .slot))
-      go i (ahead (On.past u h r)) = absurd (omega (arith, w .slot))
+  pub looked-end : (homes : List Cube) (first best : ℕ) (ws : List Way) → Looked homes first best ws → nexts ws ≡ 0
+      → (q : ℕ → Type 0) → ((i : ℕ) → q i → Among (coarseAt vs i) homes) → Least q f k first best
+  looked-end homes first best ws h e q g = record { below = h .below; all = λ i l d. walks-end best (h .walks) e i l (g i d); to = h .to }
 
 -- the same way, only to its end
 module _ (s : List ℕ) (m k : ℕ) (home : Cube) where

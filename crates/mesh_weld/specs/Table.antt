@@ -3,14 +3,16 @@ use Rattle.path.specs.Strokes.{pointAt}
 use Rattle.path.specs.Laid.{putPoint}
 use mathlib.Core.Path.{_≡_}
 use mathlib.Core.Bool.{Bool, true, false, cond, _&&_}
-use mathlib.Core.List.{List}
+use mathlib.Core.List.{List, [], _∷_}
 use Prim.Native.Nat.{ℕ, zero, suc, _+_, _-_, _*_, _/_, _%_, _^_, _<_, _≤_}
 use lib.ListN.{length, getD, set}
-use lib.Dec.{eqb, leb}
+use lib.Dec.{eqb, leb, ltb}
 use lib.IntN.{ℤ, pos, negsuc}
 use lib.Ieee.{Float, eq}
 use Rattle.vector.specs.declared.Vector.{Vector}
 use Rattle.mesh_weld.specs.declared.Cube.{Cube}
+use Rattle.mesh_weld.specs.declared.Way.{Way}
+use Rattle.mesh_weld.specs.declared.Ways.{Ways}
 use Rattle.mesh_weld.specs.declared.Found.{Found}
 use Rattle.mesh_weld.specs.declared.Found.the-variants.{At, Nothing}
 use Rattle.mesh_weld.specs.Weld.{cell, near, find}
@@ -38,9 +40,9 @@ pub record Counted (c : Cube) : Type 0 where
   pub z-low : 0 < c .z
   pub z-high : c .z < 2 ^ 55
 
--- the coarse cell, three cells wide, that a cell lies in
+-- the coarse cell, two cells wide, that a cell lies in
 unfoldable pub coarseOf : Cube → Cube
-coarseOf c = cube (c .x / 3) (c .y / 3) (c .z / 3)
+coarseOf c = cube (c .x / 2) (c .y / 2) (c .z / 2)
 
 unfoldable pub coarseAt : List Float → ℕ → Cube
 coarseAt vs i = coarseOf (cubeOf (pointAt vs i))
@@ -101,17 +103,54 @@ rankOf c v = placeOf (key (v .x)) (c .x) * 9 + placeOf (key (v .y)) (c .y) * 3 +
 unfoldable pub equalOf : Vector → Vector → Bool
 equalOf p v = eq (p .x) (v .x) && (eq (p .y) (v .y) && eq (p .z) (v .z))
 
--- what vertex i, the point v, is worth to p: the place and then the number, as one number, below 27 * 2 ^ 20 where the vertex is found
+-- what is worth nothing: 27 * 2 ^ 20
+abbrev pub top : ℕ
+top = 28311552
+
+-- what vertex i, the point v, is worth to p: the place and then the number, as one number, below top where the vertex is found
 unfoldable pub scoreOf : Vector → Cube → Vector → ℕ → ℕ
-scoreOf p c v i = cond (near p v) (rankOf c v * 1048576 + i) 28311552
+scoreOf p c v i = cond (near p v) (rankOf c v * 1048576 + i) top
 
 unfoldable pub scoreAt : List Float → Vector → Cube → ℕ → ℕ
 scoreAt vs p c i = scoreOf p c (pointAt vs i) i
 
-pub record Lesser (a b r : ℕ) : Type 0 where
-  pub left : r ≤ a
-  pub right : r ≤ b
-  pub to : (c : ℕ) → c ≤ a → c ≤ b → c ≤ r
+-- A way that is walked: what the slot holds that it has come to, and the bits that are left.
+abbrev pub wayAt : ℕ → Cube → Way
+wayAt n q = record { next = n; q = q }
+
+unfoldable pub wayOf : List ℕ → ℕ → Cube → Way
+wayOf s m q = wayAt (getD s (bucketOf q m) 0) q
+
+-- one vertex further; a way that has ended stays
+unfoldable pub onwardOf : List ℕ → ℕ → Way → Way
+onwardOf s m w = cond (eqb (w .next) 0) w (wayAt (getD s (linkOf (w .next - 1) (w .q) m) 0) (turnedOf (w .q)))
+
+unfoldable pub lesserOf : ℕ → ℕ → ℕ
+lesserOf a b = cond (ltb a b) a b
+
+-- the lesser of a number and of what the vertex ahead is worth by f; the least over several ways
+unfoldable pub worthOf : (ℕ → ℕ) → ℕ → Way → ℕ
+worthOf f best w = cond (eqb (w .next) 0) best (lesserOf (f (w .next - 1)) best)
+
+abbrev pub allWorth : (ℕ → ℕ) → ℕ → List Way → ℕ
+allWorth f best [] = best
+allWorth f best (w ∷ ws) = allWorth f (worthOf f best w) ws
+
+abbrev pub nexts : List Way → ℕ
+nexts [] = 0
+nexts (w ∷ ws) = w .next + nexts ws
+
+abbrev pub NoMore : ℕ → Way → Type 0
+NoMore n w = w .next ≤ n
+
+abbrev pub listed : Ways → List Way
+listed w = w .a ∷ w .b ∷ w .c ∷ w .d ∷ w .e ∷ w .f ∷ w .g ∷ w .h ∷ []
+
+-- the coarse cells two by two by two from one on
+abbrev pub eightFrom : ℕ → ℕ → ℕ → List Cube
+eightFrom x y z =
+    cube x y z ∷ cube x y (z + 1) ∷ cube x (y + 1) z ∷ cube x (y + 1) (z + 1)
+    ∷ cube (x + 1) y z ∷ cube (x + 1) y (z + 1) ∷ cube (x + 1) (y + 1) z ∷ cube (x + 1) (y + 1) (z + 1) ∷ []
 
 -- r is the least of first and of f over some of the numbers below k, those of q at least
 pub record Least (q : ℕ → Type 0) (f : ℕ → ℕ) (k first r : ℕ) : Type 0 where
@@ -119,23 +158,10 @@ pub record Least (q : ℕ → Type 0) (f : ℕ → ℕ) (k first r : ℕ) : Type
   pub all : (i : ℕ) → i < k → q i → r ≤ f i
   pub to : (c : ℕ) → c ≤ first → ((i : ℕ) → i < k → c ≤ f i) → c ≤ r
 
-pub record InCoarse (vs : List Float) (q : Cube) (i : ℕ) : Type 0 where
-  pub is : coarseAt vs i ≡ q
-
 -- at most a cell from x
 pub record Beside (x w : ℕ) : Type 0 where
   pub low : x ≤ w + 1
   pub high : w ≤ x + 1
-
-pub record InColumn (vs : List Float) (c : Cube) (a b i : ℕ) : Type 0 where
-  pub x : key (pointAt vs i .x) / 3 ≡ a
-  pub y : key (pointAt vs i .y) / 3 ≡ b
-  pub z : Beside (c .z) (key (pointAt vs i .z))
-
-pub record InLayer (vs : List Float) (c : Cube) (a i : ℕ) : Type 0 where
-  pub x : key (pointAt vs i .x) / 3 ≡ a
-  pub y : Beside (c .y) (key (pointAt vs i .y))
-  pub z : Beside (c .z) (key (pointAt vs i .z))
 
 pub record About (vs : List Float) (c : Cube) (i : ℕ) : Type 0 where
   pub x : Beside (c .x) (key (pointAt vs i .x))

@@ -11,10 +11,12 @@ use vector::number::Whole;
 use vector::number::floor;
 ghost use mathlib.Core.Path.{_≡_};
 ghost use Prim.Native.Nat.{_+_, _*_, _/_, _^_, _≤_, _<_};
+ghost use mathlib.Core.List.{[], _∷_, map};
 ghost use lib.ListN.{length, replicate};
+ghost use Rattle.refusal.specs.Each.{Each};
 ghost use lib.IntN.{natAbs};
 ghost use Rattle.mesh_weld.specs.Weld.{find as findOf};
-ghost use Rattle.mesh_weld.specs.Table.{count, key, cubeOf, Counted, foldedOf, bucketOf, coarseOf, turnedOf, linkOf, Older, Ends, Hung, placeOf, rankOf, equalOf, scoreOf, scoreAt, Lesser, Least, InCoarse, InColumn, InLayer, About, Ready, Placed};
+ghost use Rattle.mesh_weld.specs.Table.{count, key, cubeOf, Counted, foldedOf, bucketOf, coarseOf, turnedOf, linkOf, Older, Ends, Hung, placeOf, rankOf, equalOf, top, scoreOf, scoreAt, cube, eightFrom, listed, wayOf, onwardOf, lesserOf, worthOf, allWorth, nexts, NoMore, Least, About, Ready, Placed};
 ghost use Rattle.mesh_weld.specs.Call.{said, verdictOf, left, weldLeft, Laid};
 
 // The number of a vertex, or none.
@@ -41,6 +43,30 @@ struct Cube {
     y: u64,
     z: u64,
 }
+
+// A way that is walked: what the slot holds that it has come to, and the bits of its coarse cell that are left.
+struct Way {
+    next: usize,
+    q: Cube,
+}
+
+// The ways of the eight coarse cells in which the 27 cells about a corner lie. Walked side by side, they wait for memory together.
+struct Ways {
+    a: Way,
+    b: Way,
+    c: Way,
+    d: Way,
+    e: Way,
+    f: Way,
+    g: Way,
+    h: Way,
+}
+
+// What a vertex is worth to a corner is its place times this, and its number.
+const PLACE: u64 = 1048576;
+
+// What is worth nothing: all 27 places come before it.
+const TOP: u64 = 28311552;
 
 // A cell, counted up from a number below all of them.
 fn counted(z: i64) -> u64
@@ -78,14 +104,14 @@ fn folded(c: u64) -> u64
     (c % 4294967296 + c / 4294967296) % 4294967296
 }
 
-// The coarse cell, three cells wide, that a cell lies in.
+// The coarse cell, two cells wide, that a cell lies in.
 fn coarse_of(c: Cube) -> Cube
     ensures { λ r. ⌜ r ≡ coarseOf c ⌝ }
 {
     Cube {
-        x: c.x / 3,
-        y: c.y / 3,
-        z: c.z / 3,
+        x: c.x / 2,
+        y: c.y / 2,
+        z: c.z / 2,
     }
 }
 
@@ -161,109 +187,156 @@ fn score(p: Vector, c: Cube, v: Vector, i: usize) -> u64
 {
     if p.distance_squared(v) < 0.000001 * 0.000001 {
         if equal(p, v) {
-            return 13631488 + i as u64;
+            return 13 * PLACE + i as u64;
         }
-        return rank(v, c) * 1048576 + i as u64;
+        return rank(v, c) * PLACE + i as u64;
     }
-    28311552
+    TOP
 }
 
 fn lesser(a: u64, b: u64) -> u64
-    ensures { λ r. ⌜ Lesser a b r ⌝ }
+    ensures { λ r. ⌜ r ≡ lesserOf a b ⌝ }
 {
     if a < b { a } else { b }
 }
 
-// The least of a number and of what the vertices on the way of a coarse cell are worth, its own among them.
-fn look(
-    vertices: &[f64],
-    scratch: &[u32],
-    g: VertexMerger,
-    p: Vector,
-    c: Cube,
-    home: Cube,
-    first: u64,
-) -> u64
+// The way of a coarse cell, at its bucket.
+fn begin(scratch: &[u32], m: usize, x: u64, y: u64, z: u64) -> Way
+    requires { ⌜ (m ≤ length (now scratch)) × (0 < m) × (m < 2 ^ 20) ⌝ }
+    ensures { λ r. ⌜ r ≡ wayOf (now (scratch .entry)) m (cube x y z) ⌝ }
+{
+    let home = Cube { x: x, y: y, z: z };
+    let at = bucket(home, m);
+    Way {
+        next: scratch[at] as usize,
+        q: home,
+    }
+}
+
+// The ways of the eight coarse cells from this one on.
+fn all_begin(scratch: &[u32], m: usize, x: u64, y: u64, z: u64) -> Ways
+    requires { ⌜ (m ≤ length (now scratch)) × (0 < m) × (m < 2 ^ 20) ⌝ }
+    requires { ⌜ (x < 2 ^ 55) × (y < 2 ^ 55) × (z < 2 ^ 55) ⌝ }
+    ensures { λ r. ⌜ listed r ≡ map (wayOf (now (scratch .entry)) m) (eightFrom x y z) ⌝ }
+{
+    let right = x + 1;
+    let up = y + 1;
+    let far = z + 1;
+    Ways {
+        a: begin(scratch, m, x, y, z),
+        b: begin(scratch, m, x, y, far),
+        c: begin(scratch, m, x, up, z),
+        d: begin(scratch, m, x, up, far),
+        e: begin(scratch, m, right, y, z),
+        f: begin(scratch, m, right, y, far),
+        g: begin(scratch, m, right, up, z),
+        h: begin(scratch, m, right, up, far),
+    }
+}
+
+// A way one vertex further; one that has ended stays.
+fn onward(scratch: &[u32], g: VertexMerger, w: Way) -> Way
+    requires { ⌜ (g .buckets + g .count * 2 ≤ length (now scratch)) × (g .buckets < 2 ^ 20) × (g .count ≤ 2 ^ 20) ⌝ }
+    requires { ⌜ w .next ≤ g .count ⌝ }
+    ensures { λ r. ⌜ r ≡ onwardOf (now (scratch .entry)) (g .buckets) w ⌝ }
+{
+    if w.next == 0 {
+        return w;
+    }
+    let q = w.q;
+    let at = link(w.next - 1, q, g.buckets);
+    Way {
+        next: scratch[at] as usize,
+        q: turned(q),
+    }
+}
+
+fn all_onward(scratch: &[u32], g: VertexMerger, w: Ways) -> Ways
+    requires { ⌜ (g .buckets + g .count * 2 ≤ length (now scratch)) × (g .buckets < 2 ^ 20) × (g .count ≤ 2 ^ 20) ⌝ }
+    requires { ⌜ Each (NoMore (g .count)) (listed w) ⌝ }
+    ensures { λ r. ⌜ listed r ≡ map (onwardOf (now (scratch .entry)) (g .buckets)) (listed w) ⌝ }
+{
+    Ways {
+        a: onward(scratch, g, w.a),
+        b: onward(scratch, g, w.b),
+        c: onward(scratch, g, w.c),
+        d: onward(scratch, g, w.d),
+        e: onward(scratch, g, w.e),
+        f: onward(scratch, g, w.f),
+        g: onward(scratch, g, w.g),
+        h: onward(scratch, g, w.h),
+    }
+}
+
+// The lesser of a number and of what the vertex ahead on a way is worth.
+fn worth(vertices: &[f64], p: Vector, c: Cube, w: Way, best: u64) -> u64
+    requires { ⌜ Counted c ⌝ }
+    requires { ⌜ c ≡ cubeOf p ⌝ }
+    requires { ⌜ w .next ≤ 2 ^ 20 ⌝ }
+    ensures { λ r. ⌜ r ≡ worthOf (scoreAt (now (vertices .entry)) p c) best w ⌝ }
+{
+    if w.next == 0 {
+        return best;
+    }
+    let v = w.next - 1;
+    lesser(score(p, c, point_at(vertices, v), v), best)
+}
+
+// The same of two ways. Of most both have ended, and that is tested here, where it costs no call.
+fn worth_two(vertices: &[f64], p: Vector, c: Cube, a: Way, b: Way, best: u64) -> u64
+    requires { ⌜ Counted c ⌝ }
+    requires { ⌜ c ≡ cubeOf p ⌝ }
+    requires { ⌜ (a .next ≤ 2 ^ 20) × (b .next ≤ 2 ^ 20) ⌝ }
+    ensures { λ r. ⌜ r ≡ allWorth (scoreAt (now (vertices .entry)) p c) best (a ∷ b ∷ []) ⌝ }
+{
+    if a.next + b.next == 0 {
+        return best;
+    }
+    let r = worth(vertices, p, c, a, best);
+    worth(vertices, p, c, b, r)
+}
+
+fn all_worth(vertices: &[f64], p: Vector, c: Cube, w: Ways, best: u64) -> u64
+    requires { ⌜ Counted c ⌝ }
+    requires { ⌜ c ≡ cubeOf p ⌝ }
+    requires { ⌜ Each (NoMore (2 ^ 20)) (listed w) ⌝ }
+    ensures { λ r. ⌜ r ≡ allWorth (scoreAt (now (vertices .entry)) p c) best (listed w) ⌝ }
+{
+    let two = worth_two(vertices, p, c, w.a, w.b, best);
+    let four = worth_two(vertices, p, c, w.c, w.d, two);
+    let six = worth_two(vertices, p, c, w.e, w.f, four);
+    worth_two(vertices, p, c, w.g, w.h, six)
+}
+
+// Zero once all have ended.
+fn ahead(w: Ways) -> usize
+    requires { ⌜ Each (NoMore (2 ^ 20)) (listed w) ⌝ }
+    ensures { λ r. ⌜ r ≡ nexts (listed w) ⌝ }
+{
+    w.a.next + w.b.next + w.c.next + w.d.next + w.e.next + w.f.next + w.g.next + w.h.next
+}
+
+// The least that a vertex is worth to p, in cell c, or TOP: every vertex of the 27 cells is on one of the eight ways.
+fn look(vertices: &[f64], scratch: &[u32], g: VertexMerger, p: Vector, c: Cube) -> u64
     requires { ⌜ Ready (now scratch) (now vertices) (g .buckets) (g .count) ⌝ }
     requires { ⌜ Counted c ⌝ }
     requires { ⌜ c ≡ cubeOf p ⌝ }
-    ensures { λ r. ⌜ Least (InCoarse (now (vertices .entry)) home) (scoreAt (now (vertices .entry)) p c) (g .count) first r ⌝ }
+    ensures { λ r. ⌜ Least (About (now (vertices .entry)) c) (scoreAt (now (vertices .entry)) p c) (g .count) top r ⌝ }
 {
-    let mut best = first;
-    let mut q = home;
-    let mut at = bucket(home, g.buckets);
-    let mut next = scratch[at] as usize;
-    while next != 0 {
-        let v = next - 1;
-        best = lesser(score(p, c, point_at(vertices, v), v), best);
-        at = link(v, q, g.buckets);
-        next = scratch[at] as usize;
-        q = turned(q);
+    let mut best = TOP;
+    let mut w = all_begin(
+        scratch,
+        g.buckets,
+        (c.x - 1) / 2,
+        (c.y - 1) / 2,
+        (c.z - 1) / 2,
+    );
+    while ahead(w) != 0 {
+        let next = all_onward(scratch, g, w);
+        best = all_worth(vertices, p, c, w, best);
+        w = next;
     }
     best
-}
-
-// The same over the column of coarse cells x, y that the three cells about c lie in.
-fn find_z(
-    vertices: &[f64],
-    scratch: &[u32],
-    g: VertexMerger,
-    p: Vector,
-    c: Cube,
-    x: u64,
-    y: u64,
-    first: u64,
-) -> u64
-    requires { ⌜ Ready (now scratch) (now vertices) (g .buckets) (g .count) ⌝ }
-    requires { ⌜ Counted c ⌝ }
-    requires { ⌜ c ≡ cubeOf p ⌝ }
-    ensures { λ r. ⌜ Least (InColumn (now (vertices .entry)) c x y) (scoreAt (now (vertices .entry)) p c) (g .count) first r ⌝ }
-{
-    let mut r = first;
-    let mut z = (c.z - 1) / 3;
-    while z <= (c.z + 1) / 3 {
-        r = look(vertices, scratch, g, p, c, Cube { x: x, y: y, z: z }, r);
-        z += 1;
-    }
-    r
-}
-
-fn find_y(
-    vertices: &[f64],
-    scratch: &[u32],
-    g: VertexMerger,
-    p: Vector,
-    c: Cube,
-    x: u64,
-    first: u64,
-) -> u64
-    requires { ⌜ Ready (now scratch) (now vertices) (g .buckets) (g .count) ⌝ }
-    requires { ⌜ Counted c ⌝ }
-    requires { ⌜ c ≡ cubeOf p ⌝ }
-    ensures { λ r. ⌜ Least (InLayer (now (vertices .entry)) c x) (scoreAt (now (vertices .entry)) p c) (g .count) first r ⌝ }
-{
-    let mut r = first;
-    let mut y = (c.y - 1) / 3;
-    while y <= (c.y + 1) / 3 {
-        r = find_z(vertices, scratch, g, p, c, x, y, r);
-        y += 1;
-    }
-    r
-}
-
-fn find_x(vertices: &[f64], scratch: &[u32], g: VertexMerger, p: Vector, c: Cube, first: u64) -> u64
-    requires { ⌜ Ready (now scratch) (now vertices) (g .buckets) (g .count) ⌝ }
-    requires { ⌜ Counted c ⌝ }
-    requires { ⌜ c ≡ cubeOf p ⌝ }
-    ensures { λ r. ⌜ Least (About (now (vertices .entry)) c) (scoreAt (now (vertices .entry)) p c) (g .count) first r ⌝ }
-{
-    let mut r = first;
-    let mut x = (c.x - 1) / 3;
-    while x <= (c.x + 1) / 3 {
-        r = find_y(vertices, scratch, g, p, c, x, r);
-        x += 1;
-    }
-    r
 }
 
 // The vertex that p, in cell c, is welded to, or none.
@@ -272,9 +345,9 @@ fn find(vertices: &[f64], scratch: &[u32], g: VertexMerger, p: Vector, c: Cube) 
     requires { ⌜ c ≡ cubeOf p ⌝ }
     ensures { λ r. ⌜ r ≡ findOf (now (vertices .entry)) (g .count) p ⌝ }
 {
-    let r = find_x(vertices, scratch, g, p, c, 28311552);
-    if r < 28311552 {
-        return Found::At((r % 1048576) as usize);
+    let r = look(vertices, scratch, g, p, c);
+    if r < TOP {
+        return Found::At((r % PLACE) as usize);
     }
     Found::Nothing
 }

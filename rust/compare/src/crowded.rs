@@ -8,11 +8,11 @@ type Cell = [u64; 3];
 
 const SIDE: f64 = 1e-6;
 /// How many cells wide a coarse cell is, and the number of the cell that begins at 0.
-const WIDE: u64 = 3;
+const WIDE: u64 = 2;
 const ZERO: u64 = 1 << 54;
-/// The coarse cell of 0, and how far from it the cells of a coordinate are taken, of some 349,000,000,000.
+/// The coarse cell of 0, and how far from it the cells of a coordinate are taken, of some 524,000,000,000.
 const HOME: u64 = ZERO / WIDE;
-const FAR: u64 = 300_000_000_000;
+const FAR: u64 = 450_000_000_000;
 const PRIME: u64 = 4_294_967_291;
 const TIMES: [u64; 3] = [625_341_585, 461_845_907, 668_265_263];
 
@@ -35,7 +35,7 @@ fn from(cell: u64) -> f64 {
 
 /// A point in the midst of a coarse cell, where a coordinate can lie so.
 fn within(cell: Cell) -> Option<Point> {
-    let p = cell.map(|c| from(c) + 1.5 * SIDE);
+    let p = cell.map(|c| from(c) + SIDE);
     (coarse(p) == cell && p.iter().all(|x| x.abs() <= 1048576.0)).then_some(p)
 }
 

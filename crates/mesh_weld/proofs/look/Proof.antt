@@ -1,109 +1,91 @@
--- `look` meets its contract: what is in the coarse cell is scored already, or ahead on the way.
-use mathlib.Core.Path.{_≡_, refl, ap, _∙_, subst}
-use Prim.Native.Nat.{ℕ, _+_, _-_, _*_}
+-- `look` meets its contract. The loop keeps: what is in one of the eight coarse cells is scored already, or ahead on the way of that cell; and
+-- the number kept is the least of what is scored. Each turn leaves fewer vertices that may still come on the ways.
+use mathlib.Core.Path.{_≡_, sym, ap, _∙_, subst}
+use mathlib.Core.List.{List, map}
+use Prim.Native.Nat.{ℕ, _+_, _-_, _*_, _/_, _<_}
 use native.Mathlib.Omega.{arith}
-use borrow.Author.Needs.{needs}
-use Rattle.vector.specs.declared.Vector.{Vector}
-use Rattle.mesh_weld.specs.Table.{scoreAt, scoreOf, Lesser}
-use Rattle.mesh_weld.proofs.Walks.{number, further, within, Walk, walk-start, walk-turn, walk-end}
+use Rattle.mesh_weld.specs.declared.Cube.{Cube}
+use Rattle.mesh_weld.specs.declared.Way.{Way}
+use Rattle.mesh_weld.specs.Table.{scoreAt, onwardOf, wayOf, allWorth, listed, eightFrom, top, About}
+use Rattle.mesh_weld.proofs.Coarse.{in-eight}
+use Rattle.mesh_weld.proofs.Walks.{Looked, looked-start, looked-on, looked-end, walks-few, lefts, lefts-less}
 use Rattle.mesh_weld.proofs.look.Statement.{statement}
 use Rattle.mesh_weld.proofs.look.Tie as tie
 
+-- the coarse cells about a cell
+abbrev homes : Cube → List Cube
+homes c = eightFrom ((c .x - 1) / 2) ((c .y - 1) / 2) ((c .z - 1) / 2)
+
 abbrev Inv-loop : tie.InvT-loop
-Inv-loop vertices scratch g p c first best₀ q₀ at₀ next₀ best q at next = Walk vertices scratch (scoreAt vertices p c) (g .buckets) (g .count) q₀ first best at next q
+Inv-loop vertices scratch g p c best₀ w₀ best w = Looked vertices scratch (scoreAt vertices p c) (g .buckets) (g .count) (homes c) top best (listed w)
 
 abbrev μ-loop : tie.MeasureT-loop
-μ-loop vertices scratch g p c first best₀ q₀ at₀ next₀ best q at next = g .buckets + g .count * 2 - at
+μ-loop vertices scratch g p c best₀ w₀ best w = lefts vertices scratch (scoreAt vertices p c) (g .buckets) (g .count) (listed w)
 
-bucket-requires : tie.Need-bucket-requires Inv-loop μ-loop
-bucket-requires c κs = search needs
+sub-all-begin : tie.Need-sub-all-begin Inv-loop μ-loop
+sub-all-begin c = omega (arith, c .before .before .before .pre .1 .0 .x-low)
 
-mul-next : tie.Need-mul-next Inv-loop μ-loop
-mul-next c = search needs
+sub-all-begin-2 : tie.Need-sub-all-begin-2 Inv-loop μ-loop
+sub-all-begin-2 c = omega (arith, c .before .before .before .before .pre .1 .0 .y-low)
 
-shared-slice-read-next : tie.Need-shared-slice-read-next Inv-loop μ-loop
-shared-slice-read-next c = omega arith
+sub-all-begin-3 : tie.Need-sub-all-begin-3 Inv-loop μ-loop
+sub-all-begin-3 c = omega (arith, c .before .before .before .before .before .pre .1 .0 .z-low)
 
-cast-next : tie.Need-cast-next Inv-loop μ-loop
-cast-next c = omega (arith, c .shared-slice-known3 .given (c .before .bucket .result))
+all-begin-requires : tie.Need-all-begin-requires Inv-loop μ-loop
+all-begin-requires c κs =
+    let p = c .before .before .before .before .before .pre in
+    let n = p .1 .0 in
+    ((omega (arith, p .0 .room), p .0 .some, p .0 .few), (omega (arith, n .x-high), omega (arith, n .y-high), omega (arith, n .z-high)))
 
 loop-holds : tie.Need-loop-holds Inv-loop μ-loop
 loop-holds c =
-    let s = c .before .before .before .before in
-    let a = s .args in
-    let b = c .before .bucket in
-    walk-start (a .vertices .now) (a .scratch .now) (scoreAt (a .vertices .now) (a .p) (a .c)) (a .g .buckets) (a .g .count) (a .home) (a .first) (b .result) _ (s .pre .0 .table) (b .ensures .0) (b .ensures .1) refl
-
-sub-v : tie.Need-sub-v Inv-loop μ-loop
-sub-v c = omega arith
-
-point-at-requires : tie.Need-point-at-requires Inv-loop μ-loop
-point-at-requires c κs =
     let s = c .before .before .before .before .before .before in
-    let l = c .before .loop in
-    let n = number (s .args .scratch .now) (s .args .g .buckets) (s .args .g .count) (l .at) (l .next) (s .pre .0 .table .older) (l .inv .slot) (c .loop-test .taken) in
-    omega (arith, s .pre .0 .points)
+    let a = s .args in
+    subst (Looked (a .vertices .now) (a .scratch .now) (scoreAt (a .vertices .now) (a .p) (a .c)) (a .g .buckets) (a .g .count) (homes (a .c)) top top) (sym (c .all-begin .ensures)) (looked-start (a .vertices .now) (a .scratch .now) (scoreAt (a .vertices .now) (a .p) (a .c)) (a .g .buckets) (a .g .count) (s .pre .0 .table) (homes (a .c)) top)
 
-score-requires : tie.Need-score-requires Inv-loop μ-loop
-score-requires c κs =
+ahead-requires : tie.Need-ahead-requires Inv-loop μ-loop
+ahead-requires c κs =
     let s = c .before .before .before .before .before .before .before in
-    let l = c .before .before .loop in
-    let n = number (s .args .scratch .now) (s .args .g .buckets) (s .args .g .count) (l .at) (l .next) (s .pre .0 .table .older) (l .inv .slot) (c .before .loop-test .taken) in
-    (s .pre .1 .0, (omega (arith, s .pre .0 .small), s .pre .1 .1))
+    let a = s .args in
+    walks-few (a .vertices .now) (a .scratch .now) (scoreAt (a .vertices .now) (a .p) (a .c)) (a .g .buckets) (a .g .count) (s .pre .0 .table .older) 1048576 (s .pre .0 .small) (c .loop .inv .walks)
 
-lesser-requires : tie.Need-lesser-requires Inv-loop μ-loop
-lesser-requires c κs = search needs
-
-link-requires : tie.Need-link-requires Inv-loop μ-loop
-link-requires c κs =
+all-onward-requires : tie.Need-all-onward-requires Inv-loop μ-loop
+all-onward-requires c κs =
     let s = c .before .before .before .before .before .before .before .before .before in
-    let l = c .before .before .before .before .loop in
-    let n = number (s .args .scratch .now) (s .args .g .buckets) (s .args .g .count) (l .at) (l .next) (s .pre .0 .table .older) (l .inv .slot) (c .before .before .before .loop-test .taken) in
-    (s .pre .0 .few, omega (arith, s .pre .0 .small))
+    let a = s .args in
+    ((s .pre .0 .room, s .pre .0 .few, s .pre .0 .small), walks-few (a .vertices .now) (a .scratch .now) (scoreAt (a .vertices .now) (a .p) (a .c)) (a .g .buckets) (a .g .count) (s .pre .0 .table .older) (a .g .count) (omega arith) (c .before .before .loop .inv .walks))
 
-mul-next-2 : tie.Need-mul-next-2 Inv-loop μ-loop
-mul-next-2 c =
+all-worth-requires : tie.Need-all-worth-requires Inv-loop μ-loop
+all-worth-requires c κs =
     let s = c .before .before .before .before .before .before .before .before .before .before in
-    let l = c .before .before .before .before .before .loop in
-    let n = number (s .args .scratch .now) (s .args .g .buckets) (s .args .g .count) (l .at) (l .next) (s .pre .0 .table .older) (l .inv .slot) (c .before .before .before .before .loop-test .taken) in
-    omega (arith, c .link .ensures, s .pre .0 .few, s .pre .0 .small)
-
-shared-slice-read-next-2 : tie.Need-shared-slice-read-next-2 Inv-loop μ-loop
-shared-slice-read-next-2 c =
-    let s = c .before .before .before .before .before .before .before .before .before .before .before in
-    let l = c .before .before .before .before .before .before .loop in
-    let w = within (s .args .scratch .now) (s .args .g .buckets) (s .args .g .count) (l .at) (l .next) (s .pre .0 .table .older) (l .inv .slot) (c .before .before .before .before .before .loop-test .taken) (l .q) in
-    omega (arith, c .before .link .ensures, s .pre .0 .room)
-
-cast-next-2 : tie.Need-cast-next-2 Inv-loop μ-loop
-cast-next-2 c = omega (arith, c .shared-slice-known4 .given (c .before .link .result))
-
-turned-requires : tie.Need-turned-requires Inv-loop μ-loop
-turned-requires c κs = search needs
+    let a = s .args in
+    (s .pre .1 .0, (s .pre .1 .1, walks-few (a .vertices .now) (a .scratch .now) (scoreAt (a .vertices .now) (a .p) (a .c)) (a .g .buckets) (a .g .count) (s .pre .0 .table .older) 1048576 (s .pre .0 .small) (c .before .before .before .loop .inv .walks)))
 
 loop-less : tie.Need-loop-less Inv-loop μ-loop
 loop-less c =
-    let s = c .before .before .before .before .before .before .before .before .before .before .before .before in
-    let l = c .before .before .before .before .before .before .before .loop in
-    let f = further (s .args .scratch .now) (s .args .g .buckets) (s .args .g .count) (l .at) (l .next) (s .pre .0 .table .older) (l .inv .slot) (c .before .before .before .before .before .before .loop-test .taken) (l .q) in
-    omega (arith, c .before .before .link .ensures, l .inv .inside)
+    let s = c .before .before .before .before .before .before .before .before .before .before .before in
+    let a = s .args in
+    let l = c .before .before .before .before .loop in
+    subst (λ (ws : List Way). lefts (a .vertices .now) (a .scratch .now) (scoreAt (a .vertices .now) (a .p) (a .c)) (a .g .buckets) (a .g .count) ws < lefts (a .vertices .now) (a .scratch .now) (scoreAt (a .vertices .now) (a .p) (a .c)) (a .g .buckets) (a .g .count) (listed (l .w))) (sym (c .before .all-onward .ensures))
+    (lefts-less (a .vertices .now) (a .scratch .now) (scoreAt (a .vertices .now) (a .p) (a .c)) (a .g .buckets) (a .g .count) (s .pre .0 .table .older) (l .best) (l .inv .walks) (λ e. c .before .before .if1 .taken (c .before .before .before .ahead .ensures ∙ e)))
 
 loop-again : tie.Need-loop-again Inv-loop μ-loop
-unfolding scoreAt
 loop-again c =
-    let s = c .before .before .before .before .before .before .before .before .before .before .before .before in
+    let s = c .before .before .before .before .before .before .before .before .before .before .before in
     let a = s .args in
-    let l = c .before .before .before .before .before .before .before .loop in
-    let e : c .before .before .before .before .score .result ≡ scoreAt (a .vertices .now) (a .p) (a .c) (l .next - 1) = c .before .before .before .before .score .ensures ∙ ap (λ (v : Vector). scoreOf (a .p) (a .c) v (l .next - 1)) (c .before .before .before .before .before .point-at .ensures) in
-    walk-turn (a .vertices .now) (a .scratch .now) (scoreAt (a .vertices .now) (a .p) (a .c)) (a .g .buckets) (a .g .count) (a .home) (a .first) (l .best) (l .at) (l .next) (l .q) (l .inv) (s .pre .0 .table .older) (c .before .before .before .before .before .before .loop-test .taken)
-    (c .before .before .before .lesser .result) (subst (λ (x : ℕ). Lesser x (l .best) (c .before .before .before .lesser .result)) e (c .before .before .before .lesser .ensures)) (c .before .before .link .result) (c .before .before .link .ensures) (c .turned .result) (c .turned .ensures)
+    let l = c .before .before .before .before .loop in
+    subst (Looked (a .vertices .now) (a .scratch .now) (scoreAt (a .vertices .now) (a .p) (a .c)) (a .g .buckets) (a .g .count) (homes (a .c)) top (c .all-worth .result)) (sym (c .before .all-onward .ensures))
+    (subst (λ (r : ℕ). Looked (a .vertices .now) (a .scratch .now) (scoreAt (a .vertices .now) (a .p) (a .c)) (a .g .buckets) (a .g .count) (homes (a .c)) top r (map (onwardOf (a .scratch .now) (a .g .buckets)) (listed (l .w)))) (sym (c .all-worth .ensures))
+    (looked-on (a .vertices .now) (a .scratch .now) (scoreAt (a .vertices .now) (a .p) (a .c)) (a .g .buckets) (a .g .count) (s .pre .0 .table .older) (homes (a .c)) top (l .best) (listed (l .w)) (l .inv)))
 
 returns : tie.Need-returns Inv-loop μ-loop
 returns c =
-    let s = c .before .before .before .before .before .before in
+    let s = c .before .before .before .before .before .before .before .before .before in
     let a = s .args in
-    let l = c .before .loop in
-    walk-end (a .vertices .now) (a .scratch .now) (scoreAt (a .vertices .now) (a .p) (a .c)) (a .g .buckets) (a .g .count) (a .home) (a .first) (l .best) (l .at) (l .next) (l .q) (l .inv) (c .loop-test .left)
+    let l = c .before .before .loop in
+    let n = s .pre .1 .0 in
+    looked-end (a .vertices .now) (a .scratch .now) (scoreAt (a .vertices .now) (a .p) (a .c)) (a .g .buckets) (a .g .count) (homes (a .c)) top (l .best) (listed (l .w)) (l .inv) (sym (c .before .ahead .ensures) ∙ c .if1 .left) (About (a .vertices .now) (a .c))
+    (λ i h. in-eight (a .vertices .now) (a .c) i (n .x-low) (n .y-low) (n .z-low) h)
 
 pub look-spec : {M : Type 1} → statement M
 look-spec =
@@ -111,20 +93,14 @@ look-spec =
     (tie.spec
     Inv-loop
     μ-loop
-    bucket-requires
-    mul-next
-    shared-slice-read-next
-    cast-next
+    sub-all-begin
+    sub-all-begin-2
+    sub-all-begin-3
+    all-begin-requires
     loop-holds
-    sub-v
-    point-at-requires
-    score-requires
-    lesser-requires
-    link-requires
-    mul-next-2
-    shared-slice-read-next-2
-    cast-next-2
-    turned-requires
+    ahead-requires
+    all-onward-requires
+    all-worth-requires
     loop-less
     loop-again
     returns)

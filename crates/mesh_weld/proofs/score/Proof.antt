@@ -15,6 +15,9 @@ distance-squared-requires c κs = search needs
 equal-requires : tie.Need-equal-requires
 equal-requires c κs = search needs
 
+mul-result : tie.Need-mul-result
+mul-result c = search needs
+
 add-result : tie.Need-add-result
 add-result c = search needs
 
@@ -31,8 +34,8 @@ returns c =
 rank-requires : tie.Need-rank-requires
 rank-requires c κs = search needs
 
-mul-result : tie.Need-mul-result
-mul-result c = search needs
+mul-result-2 : tie.Need-mul-result-2
+mul-result-2 c = search needs
 
 add-result-2 : tie.Need-add-result-2
 add-result-2 c = search needs
@@ -59,10 +62,11 @@ score-spec =
     (tie.spec
     distance-squared-requires
     equal-requires
+    mul-result
     add-result
     returns
     rank-requires
-    mul-result
+    mul-result-2
     add-result-2
     returns-2
     returns-3)
