@@ -11,7 +11,7 @@ use Rattle.refusal.specs.Outcome.{Outcome, outcome}
 use Rattle.refusal.specs.declared.Refusal.the-variants.{Shape, Count, Number}
 use Rattle.refusal.specs.declared.Verdict.{Verdict}
 use Rattle.vector.specs.declared.matrix.Matrix.{Matrix}
-use Rattle.path.specs.Tests.{shapedOf, countedOf, coordinatesGood, stepGood, sizeGood, toleranceGood}
+use Rattle.path.specs.Tests.{shapedOf, countedOf, coordinatesGood, entriesGood, stepGood, sizeGood, toleranceGood}
 use Rattle.path.specs.Call.{Lent, lent, laid}
 use Rattle.path_adaptive.specs.declared.Adapted.{Adapted}
 use Rattle.path_adaptive.specs.declared.Adapted.the-variants as A
@@ -30,7 +30,7 @@ entriesOf m =
 
 -- the numbers of the call beside its points
 unfoldable pub numbersGood : Matrix → Float → Float → Float → Float → Bool
-numbersGood m width height step tolerance = coordinatesGood (entriesOf m) && sizeGood width && sizeGood height && stepGood step && toleranceGood tolerance
+numbersGood m width height step tolerance = entriesGood (entriesOf m) && sizeGood width && sizeGood height && stepGood step && toleranceGood tolerance
 
 -- how many points may be written into so many numbers
 unfoldable pub pointRoom : ℕ → ℕ

@@ -9,6 +9,7 @@ use crate::screen::view_of;
 use crate::write::write_strokes;
 use path::coordinates_good;
 use path::counted;
+use path::entries_good;
 use path::shaped;
 use path::size_good;
 use path::step_good;
@@ -20,7 +21,7 @@ use vector::Vector;
 use vector::matrix::Matrix;
 ghost use mathlib.Core.Path.{_≡_};
 ghost use Rattle.path.specs.Call.{left};
-ghost use Rattle.path.specs.Tests.{coordinatesGood};
+ghost use Rattle.path.specs.Tests.{entriesGood};
 ghost use Rattle.path_adaptive.specs.Tally.{verdictOf};
 ghost use Rattle.path_adaptive.specs.Call.{said, entriesOf, numbersGood, pointRoom, adaptiveVerdict, adaptiveLeft};
 
@@ -60,7 +61,7 @@ const DEPTH: u32 = 64;
 
 // Whether all entries of a matrix are within the bound.
 fn matrix_good(m: Matrix) -> bool
-    ensures { λ r. ⌜ r ≡ coordinatesGood (entriesOf m) ⌝ }
+    ensures { λ r. ⌜ r ≡ entriesGood (entriesOf m) ⌝ }
 {
     let entries = [
         m.x00,
@@ -80,7 +81,7 @@ fn matrix_good(m: Matrix) -> bool
         m.x32,
         m.x33,
     ];
-    coordinates_good(&entries)
+    entries_good(&entries)
 }
 
 // Whether the numbers beside the points are good.
