@@ -11,10 +11,9 @@ use borrow.Author.Tests.{ltb-true, leb-true}
 use Rattle.refusal.specs.declared.Verdict.{Verdict}
 use Rattle.refusal.specs.declared.Verdict.the-variants.{Accepted}
 use Rattle.refusal.specs.Limits.{mostVertices, mostFaces}
-use Rattle.refusal.specs.Outcome.{Outcome}
+use Rattle.refusal.specs.Outcome.{Outcome, leaves}
 use Rattle.refusal.proofs.Unique.{same-values}
 use Rattle.refusal.proofs.Outcomes.{was-accepted}
-use Rattle.vector.specs.declared.Vector.{Vector}
 use Rattle.path.specs.Laid.{over, joined, startsFrom}
 use Rattle.path.proofs.Tests.{passed, both}
 use Rattle.path.proofs.Again.{laid-again}
@@ -26,6 +25,7 @@ use Rattle.path.specs.Strokes.{strokesIn}
 use Rattle.path_splice.specs.Call as S
 use Rattle.path_splice.specs.declared.Spliced.the-variants as spliced
 use Rattle.mesh.specs.Meshes.{countedOf, allBelow}
+use Rattle.mesh_mode.specs.declared.Mode.{Mode}
 use Rattle.mesh_strokes.specs.Draw.{kept, seenBy, keptOf, drawingOf}
 use Rattle.mesh_strokes.specs.Call as L
 use Rattle.mesh_strokes.proofs.Drawn as D
@@ -54,17 +54,17 @@ read ss op os op′ os′ p q e f g =
 -- ---- splice
 
 module _ (ps ss s op os : List ℕ) where
-  splice-laid : (p q : ℕ) (s′ op′ os′ : List ℕ) → S.left (S.said (spliced.Wrote p q)) s′ op′ os′ ≡ S.spliceLeft ps ss s op os → splice 0 eqb (strokesIn ps ss) ≡ strokesWritten p q op′ os′
+  splice-laid : (p q : ℕ) (l′ : S.Lent) → leaves (S.said (spliced.Wrote p q)) l′ ≡ S.spliceLeft ps ss s op os → splice 0 eqb (strokesIn ps ss) ≡ strokesWritten p q (l′ .points) (l′ .starts)
   unfolding S.spliceLeft S.laid
-  splice-laid p q s′ op′ os′ e =
+  splice-laid p q l′ e =
       let g = was-accepted _ _ _ _ _ e .1 in
-      read (splice 0 eqb (strokesIn ps ss)) op os op′ os′ p q (same-values (ap (λ (o : Outcome S.Lent). o .answer) g)) (ap (λ (o : Outcome S.Lent). o .lent .points) g) (ap (λ (o : Outcome S.Lent). o .lent .starts) g)
+      read (splice 0 eqb (strokesIn ps ss)) op os (l′ .points) (l′ .starts) p q (same-values (ap (λ (o : Outcome S.Lent). o .answer) g)) (ap (λ (o : Outcome S.Lent). o .lent .points) g) (ap (λ (o : Outcome S.Lent). o .lent .starts) g)
 
   -- whatever an accepted splice leaves, each pair of the strokes given is drawn as often as there
-  pub splice-demand3 : (p q : ℕ) (s′ op′ os′ : List ℕ) → S.left (S.said (spliced.Wrote p q)) s′ op′ os′ ≡ S.spliceLeft ps ss s op os
-      → Draws (λ a b. drawn eqb a b (strokesIn ps ss)) (strokesWritten p q op′ os′)
-  splice-demand3 p q s′ op′ os′ e =
-      subst (Draws (λ a b. drawn eqb a b (strokesIn ps ss))) (splice-laid p q s′ op′ os′ e)
+  pub splice-demand3 : (p q : ℕ) (l′ : S.Lent) → leaves (S.said (spliced.Wrote p q)) l′ ≡ S.spliceLeft ps ss s op os
+      → Draws (λ a b. drawn eqb a b (strokesIn ps ss)) (strokesWritten p q (l′ .points) (l′ .starts))
+  splice-demand3 p q l′ e =
+      subst (Draws (λ a b. drawn eqb a b (strokesIn ps ss))) (splice-laid p q l′ e)
       (draws (strokesIn ps ss) (splice 0 eqb (strokesIn ps ss)) (λ a b. drawn eqb a b (strokesIn ps ss)) (on-numbers (strokesIn ps ss)) (λ a b. refl))
 
 -- ---- draw
@@ -75,16 +75,19 @@ below-words n [] h l k = omega arith
 below-words n (i ∷ is) h l zero = omega (arith, ltb-true i n (both (ltb i n) (allBelow n is) h .0))
 below-words n (i ∷ is) h l (suc k) = below-words n is (both (ltb i n) (allBelow n is) h .1) l k
 
-module _ (vs : List Float) (is flips : List ℕ) (number : ℕ) (cosine : Float) (eye : Vector) (tolerance : Float) (s : List ℕ) (f : List Float) (op os : List ℕ) where
+module _ (vs : List Float) (is flips : List ℕ) (s : C.Sight) (l : L.Lent) where
   abbrev verdict : Verdict
-  verdict = C.verdictOf vs is (length flips) number cosine eye tolerance (length s) (length f) (length op) (length os)
+  verdict = C.verdictOf vs is (length flips) s (C.lengthsOf l)
+
+  abbrev mode : Mode
+  mode = C.modeIn (s .number) (s .cosine)
 
   abbrev drawn-of : List (List ℕ)
-  drawn-of = drawingOf (C.modeNamed number cosine) eye tolerance flips vs is
+  drawn-of = drawingOf mode (s .eye) (s .tolerance) flips vs is
 
   -- how often each pair is to be drawn: once where it is kept, and else not at all
   abbrev pub onceKept : ℕ → ℕ → ℕ
-  onceKept a b = one (keptPair (C.modeNamed number cosine) eye tolerance flips vs is a b)
+  onceKept a b = one (keptPair mode (s .eye) (s .tolerance) flips vs is a b)
 
   words : verdict ≡ Accepted → (k : ℕ) → getD is k 0 < 4294967296
   unfolding C.verdictOf countedOf
@@ -94,22 +97,19 @@ module _ (vs : List Float) (is flips : List ℕ) (number : ℕ) (cosine : Float)
       let vertex = passed _ _ _ (count .1) in
       below-words (length vs / 3) is (vertex .0) (leb-true _ _ (both (leb (length vs / 3) mostVertices) (leb (length is / 3) mostFaces) (count .0) .0))
 
-  kept-once : verdict ≡ Accepted → (a b : ℕ) → drawn eqb a b (keptOf (C.modeNamed number cosine) eye tolerance flips vs is) ≡ onceKept a b
+  kept-once : verdict ≡ Accepted → (a b : ℕ) → drawn eqb a b (keptOf mode (s .eye) (s .tolerance) flips vs is) ≡ onceKept a b
   unfolding keptOf keptPair
-  kept-once h a b = once (kept (C.modeNamed number cosine) (seenBy eye vs is) flips tolerance) is (words h) a b
+  kept-once h a b = once (kept mode (seenBy (s .eye) vs is) flips (s .tolerance)) is (words h) a b
 
-  draw-laid : (p q : ℕ) (s′ : List ℕ) (f′ : List Float) (op′ os′ : List ℕ) → L.left (C.said (drawing.Wrote p q)) s′ f′ op′ os′ ≡ C.drawLeft vs is flips number cosine eye tolerance s f op os
-      → (verdict ≡ Accepted) × (drawn-of ≡ strokesWritten p q op′ os′)
+  draw-laid : (p q : ℕ) (l′ : L.Lent) → leaves (C.said (drawing.Wrote p q)) l′ ≡ C.drawLeft vs is flips s l → (verdict ≡ Accepted) × (drawn-of ≡ strokesWritten p q (l′ .points) (l′ .starts))
   unfolding C.drawLeft L.laid
-  draw-laid p q s′ f′ op′ os′ e =
+  draw-laid p q l′ e =
       let k = was-accepted _ _ _ _ _ e in
       let g = k .1 in
-      (k .0, read drawn-of op os op′ os′ p q (same-values (ap (λ (o : Outcome L.Lent). o .answer) g)) (ap (λ (o : Outcome L.Lent). o .lent .points) g) (ap (λ (o : Outcome L.Lent). o .lent .starts) g))
+      (k .0, read drawn-of (l .points) (l .starts) (l′ .points) (l′ .starts) p q (same-values (ap (λ (o : Outcome L.Lent). o .answer) g)) (ap (λ (o : Outcome L.Lent). o .lent .points) g) (ap (λ (o : Outcome L.Lent). o .lent .starts) g))
 
   -- whatever an accepted draw leaves: each kept edge once and none invented; then as few open strokes as those edges allow
-  pub draw-demand3 : (p q : ℕ) (s′ : List ℕ) (f′ : List Float) (op′ os′ : List ℕ)
-      → L.left (C.said (drawing.Wrote p q)) s′ f′ op′ os′ ≡ C.drawLeft vs is flips number cosine eye tolerance s f op os
-      → Draws onceKept (strokesWritten p q op′ os′)
-  draw-demand3 p q s′ f′ op′ os′ e =
-      let g = draw-laid p q s′ f′ op′ os′ e in
-      subst (Draws onceKept) (g .1) (draws (keptOf (C.modeNamed number cosine) eye tolerance flips vs is) drawn-of onceKept (D.drawn (C.modeNamed number cosine) eye tolerance flips vs is) (kept-once (g .0)))
+  pub draw-demand3 : (p q : ℕ) (l′ : L.Lent) → leaves (C.said (drawing.Wrote p q)) l′ ≡ C.drawLeft vs is flips s l → Draws onceKept (strokesWritten p q (l′ .points) (l′ .starts))
+  draw-demand3 p q l′ e =
+      let g = draw-laid p q l′ e in
+      subst (Draws onceKept) (g .1) (draws (keptOf mode (s .eye) (s .tolerance) flips vs is) drawn-of onceKept (D.drawn mode (s .eye) (s .tolerance) flips vs is) (kept-once (g .0)))

@@ -14,13 +14,13 @@ use Rattle.mesh.specs.Meshes.{shapedOf, countedOf, allBelow}
 use Rattle.mesh_mode.specs.declared.Mode.{Mode}
 use Rattle.mesh_strokes.specs.Draw.{drawingOf}
 use Rattle.mesh_strokes.specs.Call.{laid, fits, strokesLeft}
-use Rattle.mesh_draw.specs.Call.{paired, workVerdict, verdictOf}
+use Rattle.mesh_draw.specs.Call.{Sight, Lengths, paired, workVerdict, verdictOf}
 
 -- what passes the tests fits, and every index is that of a vertex
-pub granted : (vs : List Float) (is : List ℕ) (flips number : ℕ) (cosine : Float) (eye : Vector) (tolerance : Float) (words numbers room startRoom : ℕ)
-    → verdictOf vs is flips number cosine eye tolerance words numbers room startRoom ≡ Accepted → (fits (length is) words numbers room startRoom && allBelow (length vs / 3) is) ≡ true
+pub granted : (vs : List Float) (is : List ℕ) (flips : ℕ) (s : Sight) (l : Lengths) → verdictOf vs is flips s l ≡ Accepted
+    → (fits (length is) (l .words) (l .seen) (l .points) (l .starts) && allBelow (length vs / 3) is) ≡ true
 unfolding verdictOf workVerdict shapedOf countedOf fits
-granted vs is flips number cosine eye tolerance words numbers room startRoom h =
+granted vs is flips s l h =
     let shape = passed _ _ _ h in
     let count = passed _ _ _ (shape .1) in
     let vertex = passed _ _ _ (count .1) in

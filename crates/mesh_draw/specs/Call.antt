@@ -21,12 +21,35 @@ use Rattle.mesh_seen.specs.Seen.{flatFrom}
 use Rattle.mesh_draw.specs.declared.Drawing.{Drawing}
 use Rattle.mesh_draw.specs.declared.Drawing.the-variants as D
 use Rattle.mesh_strokes.specs.Draw.{drawingOf}
-use Rattle.mesh_strokes.specs.Call.{Lent, lent, laid, scratchFor, roomFor}
+use Rattle.mesh_strokes.specs.Call.{Lent, laid, scratchFor, roomFor}
 
 -- the answer as the paper reads it
 abbrev pub said : Drawing → Said ℕ
 said (D.Wrote points starts) = accepted (points ∷ starts ∷ [])
 said (D.Refused r) = refused r
+
+-- how a mesh is looked at: the number of a mode and its cosine, the eye, the tolerance
+pub record Sight : Type 0 where
+  pub number : ℕ
+  pub cosine : Float
+  pub eye : Vector
+  pub tolerance : Float
+
+abbrev pub sight : ℕ → Float → Vector → Float → Sight
+sight n cosine eye tolerance = record { number = n; cosine = cosine; eye = eye; tolerance = tolerance }
+
+-- how long the lists are that are lent
+pub record Lengths : Type 0 where
+  pub words : ℕ
+  pub seen : ℕ
+  pub points : ℕ
+  pub starts : ℕ
+
+abbrev pub lengths : ℕ → ℕ → ℕ → ℕ → Lengths
+lengths words seen points starts = record { words = words; seen = seen; points = points; starts = starts }
+
+abbrev pub lengthsOf : Lent → Lengths
+lengthsOf l = lengths (length (l .words)) (length (l .seen)) (length (l .points)) (length (l .starts))
 
 -- whether a number names a mode, and which; a number that names none is refused
 abbrev pub namesMode : ℕ → Float → Bool
@@ -40,8 +63,8 @@ abbrev pub paired : ℕ → Bool
 paired numbers = eqb (numbers % 2) 0
 
 -- coordinates, mode with its cosine, eye and tolerance within their ranges
-unfoldable pub numbersGood : List Float → ℕ → Float → Vector → Float → Bool
-numbersGood vs number cosine eye tolerance = coordinatesGood vs && namesMode number cosine && vectorGood eye && toleranceGood tolerance
+unfoldable pub numbersGood : List Float → Sight → Bool
+numbersGood vs s = coordinatesGood vs && namesMode (s .number) (s .cosine) && vectorGood (s .eye) && toleranceGood (s .tolerance)
 
 -- whether a mode needs a normal that some face does not have
 unfoldable pub flatIn : Mode → List Float → List ℕ → Bool
@@ -51,22 +74,22 @@ unfoldable pub flatVerdict : Mode → List Float → List ℕ → Verdict
 flatVerdict mode vs is = unless (not (flatIn mode vs is)) Flat Accepted
 
 -- the tests of what a drawing works with and on
-unfoldable pub workVerdict : List Float → List ℕ → ℕ → Float → Vector → Float → ℕ → ℕ → ℕ → ℕ → Verdict
-workVerdict vs is number cosine eye tolerance words numbers room startRoom =
-    unless (numbersGood vs number cosine eye tolerance) Number
-    (unless (scratchFor (length is / 3) words numbers) Scratch
-    (unless (roomFor (length is / 3) room startRoom) Room
-    (flatVerdict (modeNamed number cosine) vs is)))
+unfoldable pub workVerdict : List Float → List ℕ → Sight → Lengths → Verdict
+workVerdict vs is s l =
+    unless (numbersGood vs s) Number
+    (unless (scratchFor (length is / 3) (l .words) (l .seen)) Scratch
+    (unless (roomFor (length is / 3) (l .points) (l .starts)) Room
+    (flatVerdict (modeNamed (s .number) (s .cosine)) vs is)))
 
 -- those of a mesh, with its list of flips, come before them
-unfoldable pub verdictOf : List Float → List ℕ → ℕ → ℕ → Float → Vector → Float → ℕ → ℕ → ℕ → ℕ → Verdict
-verdictOf vs is flips number cosine eye tolerance words numbers room startRoom =
+unfoldable pub verdictOf : List Float → List ℕ → ℕ → Sight → Lengths → Verdict
+verdictOf vs is flips s l =
     unless (shapedOf (length vs) (length is) && paired flips) Shape
     (unless (countedOf (length vs) (length is)) Count
     (unless (allBelow (length vs / 3) is) Vertex
-    (workVerdict vs is number cosine eye tolerance words numbers room startRoom)))
+    (workVerdict vs is s l)))
 
-unfoldable pub drawLeft : List Float → List ℕ → List ℕ → ℕ → Float → Vector → Float → List ℕ → List Float → List ℕ → List ℕ → Outcome Lent
-drawLeft vs is flips number cosine eye tolerance s f op os =
-    outcome (verdictOf vs is (length flips) number cosine eye tolerance (length s) (length f) (length op) (length os)) (lent s f op os)
-    (laid (drawingOf (modeNamed number cosine) eye tolerance flips vs is) s f op os)
+unfoldable pub drawLeft : List Float → List ℕ → List ℕ → Sight → Lent → Outcome Lent
+drawLeft vs is flips s l =
+    outcome (verdictOf vs is (length flips) s (lengthsOf l)) l
+    (laid (drawingOf (modeNamed (s .number) (s .cosine)) (s .eye) (s .tolerance) flips vs is) (l .words) (l .seen) (l .points) (l .starts))

@@ -22,8 +22,8 @@ ghost use Prim.Native.Nat.{_/_, _≤_};
 ghost use lib.ListN.{length};
 ghost use Rattle.refusal.specs.Limits.{mostFaces};
 ghost use Rattle.mesh.specs.Meshes.{shapedOf, allBelow};
-ghost use Rattle.mesh_draw.specs.Call.{namesMode, modeNamed, paired, numbersGood, flatIn, workVerdict, verdictOf, said, drawLeft};
-ghost use Rattle.mesh_strokes.specs.Call.{left};
+ghost use Rattle.mesh_draw.specs.Call.{sight, lengths, namesMode, modeNamed, paired, numbersGood, flatIn, workVerdict, verdictOf, said, drawLeft};
+ghost use Rattle.mesh_strokes.specs.Call.{lent, left};
 
 // What a drawing answers: how many points and starts were written, or the refusal.
 pub enum Drawing {
@@ -63,7 +63,7 @@ fn shaped_with(vertices: usize, indices: usize, flips: usize) -> bool
 
 // Whether coordinates, mode, eye and tolerance are within their ranges.
 fn numbers_good(vertices: &[f64], number: u32, cos_theta: f64, eye: Vector, tolerance: f64) -> bool
-    ensures { λ r. ⌜ r ≡ numbersGood (now (vertices .entry)) number «cos_theta» eye tolerance ⌝ }
+    ensures { λ r. ⌜ r ≡ numbersGood (now (vertices .entry)) (sight number «cos_theta» eye tolerance) ⌝ }
 {
     if !coordinates_good(vertices) {
         return false;
@@ -106,7 +106,7 @@ fn work_verdict(
 ) -> Verdict
     requires { ⌜ length (now indices) / 3 ≤ mostFaces ⌝ }
     requires { ⌜ allBelow (length (now vertices) / 3) (now indices) ≡ true ⌝ }
-    ensures { λ r. ⌜ r ≡ workVerdict (now (vertices .entry)) (now (indices .entry)) number «cos_theta» eye tolerance words numbers room «start_room» ⌝ }
+    ensures { λ r. ⌜ r ≡ workVerdict (now (vertices .entry)) (now (indices .entry)) (sight number «cos_theta» eye tolerance) (lengths words numbers room «start_room») ⌝ }
 {
     if !numbers_good(vertices, number, cos_theta, eye, tolerance) {
         return Verdict::Refused(Refusal::Number);
@@ -137,7 +137,7 @@ fn draw_verdict(
     room: usize,
     start_room: usize,
 ) -> Verdict
-    ensures { λ r. ⌜ r ≡ verdictOf (now (vertices .entry)) (now (indices .entry)) flips number «cos_theta» eye tolerance words numbers room «start_room» ⌝ }
+    ensures { λ r. ⌜ r ≡ verdictOf (now (vertices .entry)) (now (indices .entry)) flips (sight number «cos_theta» eye tolerance) (lengths words numbers room «start_room») ⌝ }
 {
     if !shaped_with(vertices.len(), indices.len(), flips) {
         return Verdict::Refused(Refusal::Shape);
@@ -178,8 +178,8 @@ pub fn draw(
     out_starts: &mut [u32],
 ) -> Drawing
     ensures { λ r. ⌜ left (said r) (now (scratch .exit)) (now (seen .exit)) (now («out_points» .exit)) (now («out_starts» .exit))
-        ≡ drawLeft (now (vertices .entry)) (now (indices .entry)) (now (flips .entry)) number «cos_theta» eye tolerance
-        (now (scratch .entry)) (now (seen .entry)) (now («out_points» .entry)) (now («out_starts» .entry)) ⌝ }
+        ≡ drawLeft (now (vertices .entry)) (now (indices .entry)) (now (flips .entry)) (sight number «cos_theta» eye tolerance)
+        (lent (now (scratch .entry)) (now (seen .entry)) (now («out_points» .entry)) (now («out_starts» .entry))) ⌝ }
 {
     let v = draw_verdict(
         vertices,

@@ -11,7 +11,7 @@ ghost use Rattle.path.specs.Call.{lent};
 ghost use Rattle.mesh_weld.specs.Call.{lent as weldLent, weldLeft};
 ghost use Rattle.mesh_section.specs.Call.{sectionLeft};
 ghost use Rattle.mesh_strokes.specs.Call.{lent as drawLent};
-ghost use Rattle.mesh_draw.specs.Call.{drawLeft};
+ghost use Rattle.mesh_draw.specs.Call.{sight, drawLeft};
 ghost use Rattle.ramikohy.specs.Points.{pointOf};
 ghost use Rattle.ramikohy.specs.Calls.{called, calledBy};
 
@@ -96,8 +96,8 @@ pub extern "C" fn ramikohy_draw(
 ) -> u32
     ensures { λ r. ⌜ called r (now («point_count» .exit) ∷ now («start_count» .exit) ∷ []) (drawLent (now (scratch .exit)) (now (seen .exit)) (now («out_points» .exit)) (now («out_starts» .exit)))
         ≡ calledBy
-        (drawLeft (now (vertices .entry)) (now (indices .entry)) (now (flips .entry)) mode «cos_theta» (pointOf (now (eye .entry))) tolerance
-        (now (scratch .entry)) (now (seen .entry)) (now («out_points» .entry)) (now («out_starts» .entry)))
+        (drawLeft (now (vertices .entry)) (now (indices .entry)) (now (flips .entry)) (sight mode «cos_theta» (pointOf (now (eye .entry))) tolerance)
+        (drawLent (now (scratch .entry)) (now (seen .entry)) (now («out_points» .entry)) (now («out_starts» .entry))))
         (now («point_count» .entry) ∷ now («start_count» .entry) ∷ []) ⌝ }
 {
     let e = point(eye);

@@ -46,7 +46,7 @@ returns-2 c =
     accept _ _ _ z
     (c .before .before .before .before .before .before .before .before .draw-strokes .ensures
     ∙ drawn (a .vertices .now) (a .indices .now) (a .flips .now) _ _ (a .eye) (a .tolerance) (a .scratch .now) (a .seen .now) (a .out-points .now) (a .out-starts .now) (c .before .before .before .before .before .before .before .before .before .before .before .before .before .mode-named .ensures)
-    (granted (a .vertices .now) (a .indices .now) _ _ _ _ _ _ _ _ _ z))
+    (granted (a .vertices .now) (a .indices .now) _ _ _ z))
 
 pub draw-spec : {M : Type 1} → statement M
 draw-spec =
