@@ -80,7 +80,7 @@ module _ (vs : List Float) (is flips : List ℕ) (s : C.Sight) (l : L.Lent) wher
   verdict = C.verdictOf vs is (length flips) s (C.lengthsOf l)
 
   abbrev mode : Mode
-  mode = C.modeIn (s .number) (s .cosine)
+  mode = C.modeNamed (s .number) (s .cosine)
 
   abbrev drawn-of : List (List ℕ)
   drawn-of = drawingOf mode (s .eye) (s .tolerance) flips vs is
