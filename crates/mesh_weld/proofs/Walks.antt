@@ -6,13 +6,16 @@ use Prim.Native.Nat.{ℕ, zero, suc, _+_, _-_, _*_, _≤_, _<_}
 use native.Mathlib.Omega.{arith}
 use lib.ListN.{getD}
 use lib.Dec.{eqb, ltb}
-use borrow.Author.Tests.{eqb-true, eqb-false, eq-eqb, ne-eqb, ltb-true, ltb-false}
+use borrow.Author.Tests.{eqb-true, eqb-false, eq-eqb, ne-eqb, ltb-true, ltb-false, le-ltb}
 use Rattle.refusal.specs.Each.{Each}
 use lib.Ieee.{Float}
 use Rattle.mesh_weld.specs.declared.Cube.{Cube}
 use Rattle.mesh_weld.specs.declared.Way.{Way}
+use Rattle.vector.specs.declared.Vector.{Vector}
+use Rattle.path.specs.Strokes.{pointAt}
+use Rattle.mesh_weld.specs.Weld.{near}
 use Rattle.mesh_weld.proofs.Coarse.{Among, here, after}
-use Rattle.mesh_weld.specs.Table.{coarseAt, bucketOf, turnedOf, linkOf, On, Ends, Older, Table, wayAt, wayOf, onwardOf, lesserOf, worthOf, allWorth, nexts, NoMore, Least}
+use Rattle.mesh_weld.specs.Table.{coarseAt, bucketOf, turnedOf, linkOf, On, Ends, Older, Table, wayAt, wayOf, onwardOf, lesserOf, worthOf, allWorth, closeOf, allClose, nexts, NoMore, Least, top, rankOf, scoreOf, scoreAt}
 
 -- a link is a slot further on than the vertex's own, and one of the table's
 module _ (s : List ℕ) (m k at next : ℕ) (o : Older s m k) (e : next ≡ getD s at 0) (some : next ≡ 0 → ⊥) where
@@ -68,6 +71,35 @@ module _ (f : ℕ → ℕ) (best : ℕ) (w : Way) where
   pub worth-met : (w .next ≡ 0 → ⊥) → lesserOf (f (w .next - 1)) best ≡ worthOf f best w
   unfolding worthOf
   worth-met some = rw (ne-eqb (w .next) 0 some)
+
+module _ (vs : List Float) (p : Vector) (w : Way) where
+  pub close-ended : w .next ≡ 0 → 0 ≡ closeOf vs p w
+  unfolding closeOf
+  close-ended e = rw (eq-eqb (w .next) 0 e)
+
+  pub close-met : (w .next ≡ 0 → ⊥) → (t : Bool) → near p (pointAt vs (w .next - 1)) ≡ t → cond t 1 0 ≡ closeOf vs p w
+  unfolding closeOf
+  close-met some t e = rw (ne-eqb (w .next) 0 some, e)
+
+-- where no vertex ahead is near, the least stays
+module _ (vs : List Float) (p : Vector) (c : Cube) (best : ℕ) (l : best ≤ top) where
+  far-one : (w : Way) → closeOf vs p w ≡ 0 → worthOf (scoreAt vs p c) best w ≡ best
+  unfolding closeOf worthOf scoreAt scoreOf lesserOf
+  far-one w = go (eqb (w .next) 0) (near p (pointAt vs (w .next - 1)))
+    where
+      go : (t u : Bool) → _≡_ {A = ℕ} (cond t 0 (cond u 1 0)) 0
+          → cond t best (cond (ltb (cond u (rankOf c (pointAt vs (w .next - 1)) * 1048576 + (w .next - 1)) top) best) (cond u (rankOf c (pointAt vs (w .next - 1)) * 1048576 + (w .next - 1)) top) best) ≡ best
+      go true u e = refl
+      go false true e = absurd (omega arith)
+      go false false e = rw (le-ltb top best l)
+
+  pub all-far : (ws : List Way) → allClose vs p ws ≡ 0 → best ≡ allWorth (scoreAt vs p c) best ws
+  all-far [] e = refl
+  all-far (w ∷ ws) e = all-far ws (omega arith) ∙ ap (λ (b : ℕ). allWorth (scoreAt vs p c) b ws) (sym (far-one w (omega arith)))
+
+pub no-more : (k n : ℕ) → k ≤ n → (ws : List Way) → Each (NoMore k) ws → Each (NoMore n) ws
+no-more k n l [] h = tt
+no-more k n l (w ∷ ws) h = (omega (arith, h .0), no-more k n l ws (h .1))
 
 -- what a way has before it and what it does: an end, or a vertex
 module _ (s : List ℕ) (f : ℕ → ℕ) (m best : ℕ) (w : Way) where

@@ -136,6 +136,14 @@ abbrev pub allWorth : (ℕ → ℕ) → ℕ → List Way → ℕ
 allWorth f best [] = best
 allWorth f best (w ∷ ws) = allWorth f (worthOf f best w) ws
 
+-- how many of the vertices ahead are near p
+unfoldable pub closeOf : List Float → Vector → Way → ℕ
+closeOf vs p w = cond (eqb (w .next) 0) 0 (cond (near p (pointAt vs (w .next - 1))) 1 0)
+
+abbrev pub allClose : List Float → Vector → List Way → ℕ
+allClose vs p [] = 0
+allClose vs p (w ∷ ws) = closeOf vs p w + allClose vs p ws
+
 abbrev pub nexts : List Way → ℕ
 nexts [] = 0
 nexts (w ∷ ws) = w .next + nexts ws

@@ -11,12 +11,13 @@ use vector::number::Whole;
 use vector::number::floor;
 ghost use mathlib.Core.Path.{_≡_};
 ghost use Prim.Native.Nat.{_+_, _*_, _/_, _^_, _≤_, _<_};
-ghost use mathlib.Core.List.{[], _∷_, map};
+ghost use mathlib.Core.List.{map};
 ghost use lib.ListN.{length, replicate};
 ghost use Rattle.refusal.specs.Each.{Each};
+ghost use Rattle.path.specs.Strokes.{pointAt};
 ghost use lib.IntN.{natAbs};
 ghost use Rattle.mesh_weld.specs.Weld.{find as findOf};
-ghost use Rattle.mesh_weld.specs.Table.{count, key, cubeOf, Counted, foldedOf, bucketOf, coarseOf, turnedOf, linkOf, Older, Ends, Hung, placeOf, rankOf, equalOf, top, scoreOf, scoreAt, cube, eightFrom, listed, wayOf, onwardOf, lesserOf, worthOf, allWorth, nexts, NoMore, Least, About, Ready, Placed};
+ghost use Rattle.mesh_weld.specs.Table.{count, key, cubeOf, Counted, foldedOf, bucketOf, coarseOf, turnedOf, linkOf, Older, Ends, Hung, placeOf, rankOf, equalOf, top, scoreOf, scoreAt, cube, eightFrom, listed, wayOf, onwardOf, lesserOf, worthOf, allWorth, closeOf, allClose, nexts, NoMore, Least, About, Ready, Placed};
 ghost use Rattle.mesh_weld.specs.Call.{said, verdictOf, left, weldLeft, Laid};
 
 // The number of a vertex, or none.
@@ -282,30 +283,77 @@ fn worth(vertices: &[f64], p: Vector, c: Cube, w: Way, best: u64) -> u64
     lesser(score(p, c, point_at(vertices, v), v), best)
 }
 
-// The same of two ways. Of most both have ended, and that is tested here, where it costs no call.
-fn worth_two(vertices: &[f64], p: Vector, c: Cube, a: Way, b: Way, best: u64) -> u64
-    requires { ⌜ Counted c ⌝ }
-    requires { ⌜ c ≡ cubeOf p ⌝ }
-    requires { ⌜ (a .next ≤ 2 ^ 20) × (b .next ≤ 2 ^ 20) ⌝ }
-    ensures { λ r. ⌜ r ≡ allWorth (scoreAt (now (vertices .entry)) p c) best (a ∷ b ∷ []) ⌝ }
-{
-    if a.next + b.next == 0 {
-        return best;
-    }
-    let r = worth(vertices, p, c, a, best);
-    worth(vertices, p, c, b, r)
-}
-
 fn all_worth(vertices: &[f64], p: Vector, c: Cube, w: Ways, best: u64) -> u64
     requires { ⌜ Counted c ⌝ }
     requires { ⌜ c ≡ cubeOf p ⌝ }
     requires { ⌜ Each (NoMore (2 ^ 20)) (listed w) ⌝ }
     ensures { λ r. ⌜ r ≡ allWorth (scoreAt (now (vertices .entry)) p c) best (listed w) ⌝ }
 {
-    let two = worth_two(vertices, p, c, w.a, w.b, best);
-    let four = worth_two(vertices, p, c, w.c, w.d, two);
-    let six = worth_two(vertices, p, c, w.e, w.f, four);
-    worth_two(vertices, p, c, w.g, w.h, six)
+    let a = worth(vertices, p, c, w.a, best);
+    let b = worth(vertices, p, c, w.b, a);
+    let d = worth(vertices, p, c, w.c, b);
+    let e = worth(vertices, p, c, w.d, d);
+    let f = worth(vertices, p, c, w.e, e);
+    let g = worth(vertices, p, c, w.f, f);
+    let h = worth(vertices, p, c, w.g, g);
+    worth(vertices, p, c, w.h, h)
+}
+
+// Vertex v, read with no test: it is there.
+fn vertex_in(vertices: &[f64], v: usize) -> Vector
+    requires { ⌜ (v * 3 + 2 < length (now vertices)) × (v < 2 ^ 20) ⌝ }
+    ensures { λ r. ⌜ r ≡ pointAt (now (vertices .entry)) v ⌝ }
+{
+    let k = v * 3;
+    Vector {
+        x: vertices[k],
+        y: vertices[k + 1],
+        z: vertices[k + 2],
+    }
+}
+
+// 1 where the vertex ahead on a way is near p, and else 0.
+fn close(vertices: &[f64], g: VertexMerger, p: Vector, w: Way) -> usize
+    requires { ⌜ (g .count * 3 ≤ length (now vertices)) × (g .count ≤ 2 ^ 20) × (w .next ≤ g .count) ⌝ }
+    ensures { λ r. ⌜ (r ≡ closeOf (now (vertices .entry)) p w) × (r ≤ 1) ⌝ }
+{
+    if w.next == 0 {
+        return 0;
+    }
+    if p.distance_squared(vertex_in(vertices, w.next - 1)) < 0.000001 * 0.000001 {
+        return 1;
+    }
+    0
+}
+
+// How many of the vertices ahead are near p.
+fn all_close(vertices: &[f64], g: VertexMerger, p: Vector, w: Ways) -> usize
+    requires { ⌜ (g .count * 3 ≤ length (now vertices)) × (g .count ≤ 2 ^ 20) ⌝ }
+    requires { ⌜ Each (NoMore (g .count)) (listed w) ⌝ }
+    ensures { λ r. ⌜ r ≡ allClose (now (vertices .entry)) p (listed w) ⌝ }
+{
+    let left = close(vertices, g, p, w.a)
+        + close(vertices, g, p, w.b)
+        + close(vertices, g, p, w.c)
+        + close(vertices, g, p, w.d);
+    let right = close(vertices, g, p, w.e)
+        + close(vertices, g, p, w.f)
+        + close(vertices, g, p, w.g)
+        + close(vertices, g, p, w.h);
+    left + right
+}
+
+// What all_worth gives. Mostly no vertex ahead is near, and then nothing is worth anything.
+fn best_of(vertices: &[f64], g: VertexMerger, p: Vector, c: Cube, w: Ways, best: u64) -> u64
+    requires { ⌜ (g .count * 3 ≤ length (now vertices)) × (g .count ≤ 2 ^ 20) ⌝ }
+    requires { ⌜ Each (NoMore (g .count)) (listed w) ⌝ }
+    requires { ⌜ Counted c × (c ≡ cubeOf p) × (best ≤ top) ⌝ }
+    ensures { λ r. ⌜ r ≡ allWorth (scoreAt (now (vertices .entry)) p c) best (listed w) ⌝ }
+{
+    if all_close(vertices, g, p, w) == 0 {
+        return best;
+    }
+    all_worth(vertices, p, c, w, best)
 }
 
 // Zero once all have ended.
@@ -333,7 +381,7 @@ fn look(vertices: &[f64], scratch: &[u32], g: VertexMerger, p: Vector, c: Cube) 
     );
     while ahead(w) != 0 {
         let next = all_onward(scratch, g, w);
-        best = all_worth(vertices, p, c, w, best);
+        best = best_of(vertices, g, p, c, w, best);
         w = next;
     }
     best

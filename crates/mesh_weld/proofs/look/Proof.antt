@@ -55,11 +55,14 @@ all-onward-requires c κs =
     let a = s .args in
     ((s .pre .0 .room, s .pre .0 .few, s .pre .0 .small), walks-few (a .vertices .now) (a .scratch .now) (scoreAt (a .vertices .now) (a .p) (a .c)) (a .g .buckets) (a .g .count) (s .pre .0 .table .older) (a .g .count) (omega arith) (c .before .before .loop .inv .walks))
 
-all-worth-requires : tie.Need-all-worth-requires Inv-loop μ-loop
-all-worth-requires c κs =
+best-of-requires : tie.Need-best-of-requires Inv-loop μ-loop
+best-of-requires c κs =
     let s = c .before .before .before .before .before .before .before .before .before .before in
     let a = s .args in
-    (s .pre .1 .0, (s .pre .1 .1, walks-few (a .vertices .now) (a .scratch .now) (scoreAt (a .vertices .now) (a .p) (a .c)) (a .g .buckets) (a .g .count) (s .pre .0 .table .older) 1048576 (s .pre .0 .small) (c .before .before .before .loop .inv .walks)))
+    let l = c .before .before .before .loop in (
+      (s .pre .0 .points, s .pre .0 .small),
+      (walks-few (a .vertices .now) (a .scratch .now) (scoreAt (a .vertices .now) (a .p) (a .c)) (a .g .buckets) (a .g .count) (s .pre .0 .table .older) (a .g .count) (omega arith) (l .inv .walks), (s .pre .1 .0, s .pre .1 .1, l .inv .below)),
+    )
 
 loop-less : tie.Need-loop-less Inv-loop μ-loop
 loop-less c =
@@ -74,8 +77,8 @@ loop-again c =
     let s = c .before .before .before .before .before .before .before .before .before .before .before in
     let a = s .args in
     let l = c .before .before .before .before .loop in
-    subst (Looked (a .vertices .now) (a .scratch .now) (scoreAt (a .vertices .now) (a .p) (a .c)) (a .g .buckets) (a .g .count) (homes (a .c)) top (c .all-worth .result)) (sym (c .before .all-onward .ensures))
-    (subst (λ (r : ℕ). Looked (a .vertices .now) (a .scratch .now) (scoreAt (a .vertices .now) (a .p) (a .c)) (a .g .buckets) (a .g .count) (homes (a .c)) top r (map (onwardOf (a .scratch .now) (a .g .buckets)) (listed (l .w)))) (sym (c .all-worth .ensures))
+    subst (Looked (a .vertices .now) (a .scratch .now) (scoreAt (a .vertices .now) (a .p) (a .c)) (a .g .buckets) (a .g .count) (homes (a .c)) top (c .best-of .result)) (sym (c .before .all-onward .ensures))
+    (subst (λ (r : ℕ). Looked (a .vertices .now) (a .scratch .now) (scoreAt (a .vertices .now) (a .p) (a .c)) (a .g .buckets) (a .g .count) (homes (a .c)) top r (map (onwardOf (a .scratch .now) (a .g .buckets)) (listed (l .w)))) (sym (c .best-of .ensures))
     (looked-on (a .vertices .now) (a .scratch .now) (scoreAt (a .vertices .now) (a .p) (a .c)) (a .g .buckets) (a .g .count) (s .pre .0 .table .older) (homes (a .c)) top (l .best) (listed (l .w)) (l .inv)))
 
 returns : tie.Need-returns Inv-loop μ-loop
@@ -100,7 +103,7 @@ look-spec =
     loop-holds
     ahead-requires
     all-onward-requires
-    all-worth-requires
+    best-of-requires
     loop-less
     loop-again
     returns)
