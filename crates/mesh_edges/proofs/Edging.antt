@@ -13,7 +13,7 @@ use Rattle.order.specs.Regions.{region, put}
 use Rattle.order.proofs.Parts.{region-put, put-put, put-append}
 use Rattle.mesh_edges.specs.Edges.{lowOf, highOf, pairOf, upFrom, sidesOf, groupsOf, edgesOf}
 use Rattle.mesh_edges.specs.Words.{flagOf, wordsOf, edgesIn, pairIn}
-use Rattle.mesh_edges.specs.Steps.{plainWords, Below, marks, flagAll}
+use Rattle.mesh_edges.specs.InnerSteps.{plainWords, Below, marks, flagAll}
 use Rattle.mesh_edges.proofs.Ups.{map-length, sides-length, side-below, sides-below}
 use Rattle.mesh_edges.proofs.Groups.{groups-agree}
 use Rattle.mesh_edges.proofs.Flags.{flags-are}

@@ -15,7 +15,7 @@ use Rattle.order.proofs.Sorted.{order-length}
 use Rattle.order.proofs.Passes.{by-pairs}
 use Rattle.order.proofs.Sorting.{apart-before, apart-after, inside-for, cut-for, sorted-yes}
 use Rattle.mesh_edges.specs.Edges.{lowOf, highOf, pairOf, upFrom, sidesOf}
-use Rattle.mesh_edges.specs.Steps.{sidesTo, byPairs, plainWords}
+use Rattle.mesh_edges.specs.InnerSteps.{sidesTo, byPairs, plainWords}
 use Rattle.mesh_edges.proofs.Ups.{up-length, up-more, up-agree, map-more, map-length, map-at}
 
 put-one : (s : List ℕ) (j x : ℕ) → set s j x ≡ put s j (x ∷ [])

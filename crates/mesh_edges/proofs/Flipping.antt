@@ -10,7 +10,7 @@ use lib.Dec.{eqb}
 use lib.ListN.{length, getD, set, drop, replicate, length-replicate, List·getD-eq-default}
 use Rattle.order.specs.Regions.{region, put, Into}
 use Rattle.order.proofs.Parts.{length-region, get-region, region-put, region-off, put-region, put-put, put-comm, set-put, into-none}
-use Rattle.mesh_edges.specs.Steps.{mateOn, flagAt, flagPair, flagAll, marks}
+use Rattle.mesh_edges.specs.InnerSteps.{mateOn, flagAt, flagPair, flagAll, marks}
 use Rattle.mesh_edges.proofs.Mates.{marks-size}
 use Rattle.mesh_edges.proofs.Flags.{mate-off, mate-is, mate-within, flag-yes, flag-no, flag-length, pair-length, all-turn, all-end, all-short, all-length}
 

@@ -15,7 +15,7 @@ use Rattle.order.proofs.Sorted.{In, Sorted}
 use Rattle.mesh_edges.specs.Edges.{faceOf, pairOf, sidesOf, edgesOf}
 use Rattle.mesh_edges.specs.Flips.{flipped}
 use Rattle.mesh_edges.specs.Words.{mateIn, flagBy, flagOf}
-use Rattle.mesh_edges.specs.Steps.{mark, marks}
+use Rattle.mesh_edges.specs.InnerSteps.{mark, marks}
 use Rattle.mesh_edges.proofs.Groups.{joined, joined-append, join-groups, Evens, evens-after, even-groups}
 use Rattle.mesh_edges.proofs.Ups.{sides-sorted}
 

@@ -13,7 +13,7 @@ use Rattle.order.proofs.Sorted.{In, at-in}
 use Rattle.order.proofs.Parts.{length-region, get-region, put-region, put-put, set-put, into-none, into-size, into-get, into-region, into-own}
 use Rattle.mesh_edges.specs.Edges.{groupsOf}
 use Rattle.mesh_edges.specs.Words.{alike, pairIn, endIn}
-use Rattle.mesh_edges.specs.Steps.{Below, mark, marks}
+use Rattle.mesh_edges.specs.InnerSteps.{Below, mark, marks}
 use Rattle.mesh_edges.proofs.Groups.{group-at, alike-le, alike-agree}
 use Rattle.mesh_edges.proofs.Ends.{end-from}
 

@@ -9,7 +9,7 @@ ghost use Rattle.refusal.specs.Limits.{mostFaces};
 ghost use Rattle.order.specs.Regions.{region, put};
 ghost use Rattle.mesh_edges.specs.Edges.{nextCorner, lowOf, highOf, groupsOf};
 ghost use Rattle.mesh_edges.specs.Words.{edgesIn, endIn, pairIn};
-ghost use Rattle.mesh_edges.specs.Steps.{sidesTo, byPairs, plainWords, Below, mark, marks, mateOn, flagAt, flagPair, flagAll};
+ghost use Rattle.mesh_edges.specs.InnerSteps.{sidesTo, byPairs, plainWords, Below, mark, marks, mateOn, flagAt, flagPair, flagAll};
 
 // The word at place i, 0 past the end.
 fn word_in(s: &[u32], i: usize) -> u64

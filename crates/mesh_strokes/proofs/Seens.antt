@@ -26,7 +26,7 @@ use Rattle.mesh_edges.proofs.Mates.{edges-joined}
 use Rattle.mesh_keep.specs.Keep.{Seen, turnOf, someTurns, twoKept, endsOf, keptBy, seenIn}
 use Rattle.mesh_keep.proofs.Keeps.{any-flip}
 use Rattle.mesh_strokes.specs.Draw.{seenBy, flipOf, kept, strokesBy, keptOf}
-use Rattle.mesh_strokes.specs.Walk.{lookIn, flipsFor}
+use Rattle.mesh_strokes.specs.InnerWalk.{lookIn, flipsFor}
 
 -- two accounts of the faces that agree on the first n
 pub record Agree (s t : Seen) (n : ℕ) : Type 0 where

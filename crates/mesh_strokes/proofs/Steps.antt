@@ -18,14 +18,14 @@ use Rattle.path.specs.Laid.{over, joined, startsFrom}
 use Rattle.path.proofs.Tests.{both}
 use Rattle.path_ends.specs.Splice.{splice}
 use Rattle.path_splice.specs.Call as S
-use Rattle.path_splice.specs.Pairs.{pairsOf, fits, pairsLeft}
-use Rattle.path_splice.specs.Text.{LaidOut}
+use Rattle.path_splice.specs.InnerPairs.{pairsOf, fits, pairsLeft}
+use Rattle.path_splice.specs.InnerText.{LaidOut}
 use Rattle.mesh.specs.Meshes.{allBelow}
 use Rattle.mesh_mode.specs.declared.Mode.{Mode}
 use Rattle.mesh_edges.specs.Words.{edgesIn}
 use Rattle.mesh_edges.proofs.Said.{edges-words}
 use Rattle.mesh_strokes.specs.Draw.{drawingOf}
-use Rattle.mesh_strokes.specs.Walk.{Room, Listed, KeptIn, lookIn, flipsFor, Fitting}
+use Rattle.mesh_strokes.specs.InnerWalk.{Room, Listed, KeptIn, lookIn, flipsFor, Fitting}
 use Rattle.mesh_strokes.specs.Call.{left, laid, scratchFor, roomFor, fits as fitsOf, strokesLeft}
 use Rattle.mesh_strokes.proofs.Seens.{kept-edges}
 

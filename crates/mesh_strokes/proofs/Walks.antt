@@ -13,7 +13,7 @@ use lib.Ieee.{Float}
 use Rattle.refusal.specs.Limits.{mostFaces}
 use Rattle.order.specs.Regions.{region, put}
 use Rattle.order.proofs.Parts.{length-region, get-region, region-off}
-use Rattle.path_splice.specs.Pairs.{pairsOf}
+use Rattle.path_splice.specs.InnerPairs.{pairsOf}
 use Rattle.mesh_mode.specs.declared.Mode.{Mode}
 use Rattle.mesh_mode.specs.declared.Mode.the-variants.{Triangles, Polygonal, Silhouette}
 use Rattle.mesh_edges.specs.Edges.{faceOf, lowOf, highOf, pairOf, sidesOf, groupsOf, edgesOf}
@@ -25,7 +25,7 @@ use Rattle.mesh_edges.proofs.Mates.{flag-two}
 use Rattle.mesh_edges.proofs.Said.{words-low, words-high, words-side, words-flag, words-end}
 use Rattle.mesh_keep.specs.Keep.{Seen, keptBy, facesOf, seenIn}
 use Rattle.mesh_strokes.specs.Draw.{flipOf, kept, strokesBy}
-use Rattle.mesh_strokes.specs.Walk.{Room, flipAt, withPair, Written, written, edgeKept}
+use Rattle.mesh_strokes.specs.InnerWalk.{Room, flipAt, withPair, Written, written, edgeKept}
 
 -- ---- pairs
 pub pairs-more : (w : List ℕ) (m a b : ℕ) → length w ≡ 2 * m → pairsOf (w ++ (a ∷ b ∷ [])) ≡ pairsOf w ++ ((a ∷ b ∷ []) ∷ [])

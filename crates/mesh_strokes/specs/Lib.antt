@@ -1,4 +1,4 @@
 pub mod Draw
-pub mod Walk
+pub mod InnerWalk
 pub mod Call
 pub mod Cases

@@ -21,12 +21,12 @@ ghost use lib.ListN.{length, getD};
 ghost use Rattle.refusal.specs.Limits.{mostFaces};
 ghost use Rattle.refusal.specs.Said.{accepted};
 ghost use Rattle.order.specs.Regions.{region};
-ghost use Rattle.path_splice.specs.Text.{LaidOut};
+ghost use Rattle.path_splice.specs.InnerText.{LaidOut};
 ghost use Rattle.mesh.specs.Meshes.{allBelow};
 ghost use Rattle.mesh_edges.specs.Words.{edgesIn};
 ghost use Rattle.mesh_keep.specs.Keep.{keptBy, facesOf, seenIn};
 ghost use Rattle.mesh_strokes.specs.Draw.{drawingOf};
-ghost use Rattle.mesh_strokes.specs.Walk.{Room, Listed, flipAt, withPair, written, edgeKept, KeptIn, lookIn, flipsFor, Fitting};
+ghost use Rattle.mesh_strokes.specs.InnerWalk.{Room, Listed, flipAt, withPair, written, edgeKept, KeptIn, lookIn, flipsFor, Fitting};
 ghost use Rattle.mesh_strokes.specs.Call.{scratchFor, roomFor, fits as fitsOf, left, strokesLeft};
 
 // Whether the mode keeps the edge of the sides at the places from p up to q.

@@ -12,7 +12,8 @@ use Rattle.refusal.specs.declared.Verdict.the-variants.{Accepted}
 use Rattle.path.proofs.Tests.{passed}
 use Rattle.path.proofs.Pushes.{over-sets}
 use Rattle.mesh_weld.specs.Weld.{weldOf}
-use Rattle.mesh_weld.specs.Call.{verdictOf, left, welded, Laid}
+use Rattle.mesh_weld.specs.Call.{verdictOf, left, welded}
+use Rattle.mesh_weld.specs.InnerTable.{Laid}
 
 -- what an accepted call has been tested for
 pub fitting : (cs : List Float) (w r n : ℕ) → verdictOf cs w r n ≡ Accepted

@@ -19,7 +19,7 @@ use Rattle.refusal.specs.Said.{Said, accepted, refused}
 use Rattle.refusal.specs.declared.Refusal.the-variants.{Number}
 use Rattle.vector.specs.Floor.{floorOf, wholeBelow}
 use Rattle.mesh_weld.specs.Weld.{cell, same, side}
-use Rattle.mesh_weld.specs.Table.{count, key, cubeOf, Counted}
+use Rattle.mesh_weld.specs.InnerTable.{count, key, cubeOf, Counted}
 
 pub plus : (z : ℤ) → natAbs z ≤ 2 ^ 53 → z +ℤ pos (2 ^ 54) ≡ pos (count z)
 unfolding count

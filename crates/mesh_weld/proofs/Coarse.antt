@@ -10,7 +10,7 @@ use lib.Dec.{eqb}
 use lib.Ieee.{Float}
 use borrow.Author.Tests.{eqb-true, eqb-false}
 use Rattle.mesh_weld.specs.declared.Cube.{Cube}
-use Rattle.mesh_weld.specs.Table.{key, cube, cubeOf, coarseOf, coarseAt, eightFrom, Beside, About}
+use Rattle.mesh_weld.specs.InnerTable.{key, cube, cubeOf, coarseOf, coarseAt, eightFrom, Beside, About}
 
 -- the first of two, or the other
 data Either (l w : ℕ) : Type 0 where

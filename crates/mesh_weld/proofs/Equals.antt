@@ -15,7 +15,7 @@ use Rattle.vector.specs.declared.Vector.{Vector}
 use Rattle.vector.specs.Floor.{floorOf}
 use Rattle.mesh_weld.specs.declared.Cube.{Cube}
 use Rattle.mesh_weld.specs.Weld.{cell, side}
-use Rattle.mesh_weld.specs.Table.{count, key, cubeOf, placeOf, rankOf, equalOf}
+use Rattle.mesh_weld.specs.InnerTable.{count, key, cubeOf, placeOf, rankOf, equalOf}
 use Rattle.mesh_weld.proofs.Cells.{whole}
 
 -- equal fractions round to one value

@@ -12,7 +12,7 @@ use Rattle.vector.specs.declared.Vector.{Vector}
 use Rattle.mesh_weld.specs.declared.Found.{Found}
 use Rattle.mesh_weld.specs.declared.Found.the-variants.{At, Nothing}
 use Rattle.mesh_weld.specs.Weld.{cell, same, inCell, near, orElse, oldest, findIn, three, find}
-use Rattle.mesh_weld.specs.Table.{count, key}
+use Rattle.mesh_weld.specs.InnerTable.{count, key}
 use Rattle.mesh_weld.proofs.Cells.{cell-le, count-suc, count-pred, within-pred, within-suc, same-key}
 
 pub oldest-cong : (p q : ℕ → Bool) (k : ℕ) → ((v : ℕ) → v < k → p v ≡ q v) → oldest p k ≡ oldest q k

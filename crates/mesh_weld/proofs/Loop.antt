@@ -10,14 +10,14 @@ use native.Mathlib.Numerals.{add-one}
 use native.Mathlib.Nat.{add-zero}
 use lib.ListN.{length, getD, set, drop, length-append, replicate, List·getD-append}
 use lib.Seq.{sets, sets-eq}
-use Rattle.mesh_weld.specs.Call.{Laid}
+use Rattle.mesh_weld.specs.InnerTable.{Laid}
 use lib.IntN.{ℤ, sucℤ, predℤ}
 use lib.Ieee.{Float, nan}
 use Rattle.vector.specs.declared.Vector.{Vector}
 use Rattle.mesh_weld.specs.declared.Found.{Found}
 use Rattle.mesh_weld.specs.declared.Found.the-variants.{At, Nothing}
 use Rattle.mesh_weld.specs.Weld.{cell, inCell, near, findIn, three, find, Welded, joinAs, join, weldTo, weldOf}
-use Rattle.mesh_weld.specs.Table.{coarseAt, Table, grown, numberOf, moreOf, Placed}
+use Rattle.mesh_weld.specs.InnerTable.{coarseAt, Table, grown, numberOf, moreOf, Placed}
 use Rattle.mesh_weld.proofs.Finds.{oldest-cong}
 
 -- a search reads no more than the k vertices

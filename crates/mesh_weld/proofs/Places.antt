@@ -13,7 +13,7 @@ use Rattle.mesh_weld.specs.declared.Cube.{Cube}
 use Rattle.mesh_weld.specs.declared.Found.{Found}
 use Rattle.mesh_weld.specs.declared.Found.the-variants.{At, Nothing}
 use Rattle.mesh_weld.specs.Weld.{find}
-use Rattle.mesh_weld.specs.Table.{cubeOf, coarseOf, coarseAt, Hung, Ready, Placed}
+use Rattle.mesh_weld.specs.InnerTable.{cubeOf, coarseOf, coarseAt, Hung, Ready, Placed}
 use Rattle.mesh_weld.proofs.Trees.{table-more}
 
 module _ (vs : List Float) (k : ℕ) (p : Vector) (h : k * 3 + 2 < length vs) where

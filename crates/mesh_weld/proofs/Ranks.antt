@@ -15,7 +15,7 @@ use Rattle.mesh_weld.specs.declared.Cube.{Cube}
 use Rattle.mesh_weld.specs.declared.Found.{Found}
 use Rattle.mesh_weld.specs.declared.Found.the-variants.{At, Nothing}
 use Rattle.mesh_weld.specs.Weld.{near, orElse, oldest, find}
-use Rattle.mesh_weld.specs.Table.{key, cubeOf, Counted, placeOf, rankOf, scoreOf, top, scoreAt, Least, Beside, About}
+use Rattle.mesh_weld.specs.InnerTable.{key, cubeOf, Counted, placeOf, rankOf, scoreOf, top, scoreAt, Least, Beside, About}
 use Rattle.mesh_weld.proofs.Finds.{hits, lookIn, threeOf, find-by}
 
 -- the place of a cell among three

@@ -10,7 +10,7 @@ use lib.Seq.{getD-set-same, getD-set-other}
 use lib.Dec.{eqb}
 use borrow.Author.Tests.{eqb-true, eqb-false}
 use Rattle.mesh_weld.specs.declared.Cube.{Cube}
-use Rattle.mesh_weld.specs.Table.{bucketOf, On, Ends, Table, Hung}
+use Rattle.mesh_weld.specs.InnerTable.{bucketOf, On, Ends, Table, Hung}
 
 pub ends-empty : {s : List ℕ} {m e at : ℕ} {q : Cube} → Ends s m e at q → getD s e 0 ≡ 0
 ends-empty {s} (Ends.stop o z) = ap (λ (a : ℕ). getD s a 0) o ∙ z

@@ -15,7 +15,7 @@ use Rattle.vector.specs.declared.Vector.{Vector}
 use Rattle.path.specs.Strokes.{pointAt}
 use Rattle.mesh_weld.specs.Weld.{near}
 use Rattle.mesh_weld.proofs.Coarse.{Among, here, after}
-use Rattle.mesh_weld.specs.Table.{coarseAt, bucketOf, turnedOf, linkOf, On, Ends, Older, Table, wayAt, wayOf, onwardOf, lesserOf, worthOf, allWorth, closeOf, allClose, nexts, NoMore, Least, top, rankOf, scoreOf, scoreAt}
+use Rattle.mesh_weld.specs.InnerTable.{coarseAt, bucketOf, turnedOf, linkOf, On, Ends, Older, Table, wayAt, wayOf, onwardOf, lesserOf, worthOf, allWorth, closeOf, allClose, nexts, NoMore, Least, top, rankOf, scoreOf, scoreAt}
 
 -- a link is a slot further on than the vertex's own, and one of the table's
 module _ (s : List ℕ) (m k at next : ℕ) (o : Older s m k) (e : next ≡ getD s at 0) (some : next ≡ 0 → ⊥) where

@@ -1,9 +1,7 @@
 -- The call: when welding is refused, what it answers, and what it leaves.
-use mathlib.Core.Path.{_≡_}
 use mathlib.Core.List.{List, [], _∷_}
-use Prim.Native.Nat.{ℕ, _*_, _/_, _%_, _≤_}
+use Prim.Native.Nat.{ℕ, _*_, _/_, _%_}
 use lib.ListN.{length, replicate}
-use lib.Seq.{sets}
 use lib.Dec.{leb, eqb}
 use lib.Ieee.{Float}
 use Rattle.refusal.specs.declared.Refusal.the-variants.{Shape, Count, Number, Scratch, Room}
@@ -53,11 +51,3 @@ welded cs s vs is =
 
 unfoldable pub weldLeft : List Float → List ℕ → List Float → List ℕ → Outcome Lent
 weldLeft cs s vs is = outcome (verdictOf cs (length s) (length vs) (length is)) (lent s vs is) (welded cs s vs is)
-
--- what the loop over the corners leaves
-pub record Laid (cs : List Float) (vs : List Float) (is : List ℕ) (vs′ : List Float) (is′ : List ℕ) (r : ℕ) : Type 0 where
-  pub vertices : vs′ ≡ sets vs 0 (weldOf cs .vertices)
-  pub indices : is′ ≡ sets is 0 (weldOf cs .indices)
-  pub count : r ≡ weldOf cs .count
-  pub length-vertices : length (weldOf cs .vertices) ≤ length vs
-  pub length-indices : length (weldOf cs .indices) ≡ length cs / 3

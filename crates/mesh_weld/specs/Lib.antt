@@ -1,4 +1,4 @@
 pub mod Weld
-pub mod Table
+pub mod InnerTable
 pub mod Call
 pub mod Cases

@@ -11,14 +11,15 @@ use vector::number::Whole;
 use vector::number::floor;
 ghost use mathlib.Core.Path.{_≡_};
 ghost use Prim.Native.Nat.{_+_, _*_, _/_, _^_, _≤_, _<_};
-ghost use mathlib.Core.List.{map};
+ghost use mathlib.Core.List.{[], _∷_, map};
 ghost use lib.ListN.{length, replicate};
 ghost use Rattle.refusal.specs.Each.{Each};
 ghost use Rattle.path.specs.Strokes.{pointAt};
 ghost use lib.IntN.{natAbs};
 ghost use Rattle.mesh_weld.specs.Weld.{find as findOf};
-ghost use Rattle.mesh_weld.specs.Table.{count, key, cubeOf, Counted, foldedOf, bucketOf, coarseOf, turnedOf, linkOf, Older, Ends, Hung, placeOf, rankOf, equalOf, top, scoreOf, scoreAt, cube, eightFrom, listed, wayOf, onwardOf, lesserOf, worthOf, allWorth, closeOf, allClose, nexts, NoMore, Least, About, Ready, Placed};
-ghost use Rattle.mesh_weld.specs.Call.{said, verdictOf, left, weldLeft, Laid};
+ghost use Rattle.mesh_weld.specs.InnerTable.{count, key, cubeOf, Counted, foldedOf, bucketOf, coarseOf, turnedOf, linkOf, Older, Ends, Hung, placeOf, rankOf, equalOf, top, scoreOf, scoreAt, cube, eightFrom, listed, wayOf, onwardOf, lesserOf, worthOf, allWorth, closeOf, allClose, nexts, NoMore, Least, About, Ready, Placed};
+ghost use Rattle.mesh_weld.specs.Call.{said, verdictOf, left, weldLeft};
+ghost use Rattle.mesh_weld.specs.InnerTable.{Laid};
 
 // The number of a vertex, or none.
 enum Found {
@@ -283,20 +284,30 @@ fn worth(vertices: &[f64], p: Vector, c: Cube, w: Way, best: u64) -> u64
     lesser(score(p, c, point_at(vertices, v), v), best)
 }
 
+// The same of two ways. Of most both have ended, and that is tested here, where it costs no call.
+fn worth_two(vertices: &[f64], p: Vector, c: Cube, a: Way, b: Way, best: u64) -> u64
+    requires { ⌜ Counted c ⌝ }
+    requires { ⌜ c ≡ cubeOf p ⌝ }
+    requires { ⌜ (a .next ≤ 2 ^ 20) × (b .next ≤ 2 ^ 20) ⌝ }
+    ensures { λ r. ⌜ r ≡ allWorth (scoreAt (now (vertices .entry)) p c) best (a ∷ b ∷ []) ⌝ }
+{
+    if a.next + b.next == 0 {
+        return best;
+    }
+    let r = worth(vertices, p, c, a, best);
+    worth(vertices, p, c, b, r)
+}
+
 fn all_worth(vertices: &[f64], p: Vector, c: Cube, w: Ways, best: u64) -> u64
     requires { ⌜ Counted c ⌝ }
     requires { ⌜ c ≡ cubeOf p ⌝ }
     requires { ⌜ Each (NoMore (2 ^ 20)) (listed w) ⌝ }
     ensures { λ r. ⌜ r ≡ allWorth (scoreAt (now (vertices .entry)) p c) best (listed w) ⌝ }
 {
-    let a = worth(vertices, p, c, w.a, best);
-    let b = worth(vertices, p, c, w.b, a);
-    let d = worth(vertices, p, c, w.c, b);
-    let e = worth(vertices, p, c, w.d, d);
-    let f = worth(vertices, p, c, w.e, e);
-    let g = worth(vertices, p, c, w.f, f);
-    let h = worth(vertices, p, c, w.g, g);
-    worth(vertices, p, c, w.h, h)
+    let two = worth_two(vertices, p, c, w.a, w.b, best);
+    let four = worth_two(vertices, p, c, w.c, w.d, two);
+    let six = worth_two(vertices, p, c, w.e, w.f, four);
+    worth_two(vertices, p, c, w.g, w.h, six)
 }
 
 // Vertex v, read with no test: it is there.

@@ -11,7 +11,7 @@ use Rattle.path.proofs.Pushes.{ink-none, ink-append, ink-place}
 use Rattle.path.proofs.Points.{points-lie, ink-more}
 use Rattle.path_adaptive.specs.declared.write.Mark.{Mark}
 use Rattle.path_adaptive.specs.Walk.{Walk, none, one}
-use Rattle.path_adaptive.specs.Write.{Fits, Inks}
+use Rattle.path_adaptive.specs.InnerWrite.{Fits, Inks}
 use Rattle.path_adaptive.proofs.Walks.{Both}
 
 -- a walk by its other name

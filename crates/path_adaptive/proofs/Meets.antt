@@ -12,7 +12,7 @@ use Rattle.path_adaptive.specs.declared.Tally.{Tally}
 use Rattle.path_adaptive.specs.declared.Tally.the-variants.{Left, Met}
 use Rattle.path_adaptive.specs.Walk.{Walk, one, stuck, join, halved}
 use Rattle.path_adaptive.specs.Tally.{spent, pointed, stoppedOf}
-use Rattle.path_adaptive.specs.Measure.{noRoom, tooDeep, tallyOf, Takes, Meets}
+use Rattle.path_adaptive.specs.InnerMeasure.{noRoom, tooDeep, tallyOf, Takes, Meets}
 use Rattle.path_adaptive.proofs.Tallies.{spent-stop, spent-stuck, spent-one, spent-halved, spent-join}
 
 -- ---- a tally by its word

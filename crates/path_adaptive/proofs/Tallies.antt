@@ -20,7 +20,7 @@ use Rattle.path_adaptive.specs.declared.Tally.{Tally}
 use Rattle.path_adaptive.specs.declared.Tally.the-variants.{Left, Met}
 use Rattle.path_adaptive.specs.Walk.{Walk, none, one, stuck, join, halved, strokeOf, adapted, halvingsOf, walkFrom, walksOf, shownOf, Calm}
 use Rattle.path_adaptive.specs.Tally.{spent, pointed, begun, spentStroke, spentAll, stoppedOf}
-use Rattle.path_adaptive.specs.Measure.{pointsOf}
+use Rattle.path_adaptive.specs.InnerMeasure.{pointsOf}
 use Rattle.path_adaptive.proofs.Walks.{stroke-count}
 
 -- ---- one walk

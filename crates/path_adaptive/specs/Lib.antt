@@ -1,6 +1,6 @@
 pub mod Walk
 pub mod Tally
-pub mod Measure
-pub mod Write
+pub mod InnerMeasure
+pub mod InnerWrite
 pub mod Call
 pub mod Cases

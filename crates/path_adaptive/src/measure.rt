@@ -17,7 +17,7 @@ ghost use Rattle.refusal.specs.Limits.{mostPoints};
 ghost use Rattle.path.specs.Strokes.{pointAt, gather};
 ghost use Rattle.path_adaptive.specs.Walk.{endsOf, walk, walkFrom, strokeOf, walksOf};
 ghost use Rattle.path_adaptive.specs.Tally.{pointed, begun, spentStroke, spentAll};
-ghost use Rattle.path_adaptive.specs.Measure.{tallyOf, pointsOf, Takes, Meets};
+ghost use Rattle.path_adaptive.specs.InnerMeasure.{tallyOf, pointsOf, Takes, Meets};
 
 // What the walk of a span hands on is one word: the points left, MOST_POINTS at most, or what stopped it.
 // (A word comes back in a register, an enum through memory, and there is one at every halving.)

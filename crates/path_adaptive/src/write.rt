@@ -19,7 +19,7 @@ ghost use Rattle.refusal.specs.Limits.{mostPoints};
 ghost use Rattle.path.specs.Strokes.{pointAt, gather};
 ghost use Rattle.path.specs.Laid.{putPoints, out, push, pushAll, joined};
 ghost use Rattle.path_adaptive.specs.Walk.{endsOf, one, walk, walkFrom, strokeOf, walksOf, adapted, halvingsOf, Calm};
-ghost use Rattle.path_adaptive.specs.Write.{Fits, Inks};
+ghost use Rattle.path_adaptive.specs.InnerWrite.{Fits, Inks};
 
 // Where the next point goes, and how many halvings were made so far.
 struct Mark {

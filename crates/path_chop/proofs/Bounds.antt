@@ -21,7 +21,8 @@ use Rattle.vector.proofs.RootLaws.{rooted, root-some, root-through}
 use Rattle.vector.proofs.Order.{lt-one-way}
 use Rattle.path.specs.Strokes.{gather}
 use Rattle.path.specs.Laid.{joined, nonEmpty}
-use Rattle.path_chop.specs.Chop.{tooMany, stepsOf, spans, capped}
+use Rattle.path_chop.specs.Chop.{tooMany, stepsOf, spans}
+use Rattle.path_chop.specs.InnerCounts.{capped}
 use Rattle.path_chop.specs.Call.{roomFor}
 use Rattle.path_chop.proofs.Counts.{spans-count, cap-cap, cap-under, cap-over, cap-most, cap-small}
 use Rattle.path.proofs.Tests.{split}

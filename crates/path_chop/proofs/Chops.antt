@@ -19,7 +19,8 @@ use Rattle.path.specs.Laid.{putPoint, putPoints, Pen, pen, inked}
 use Rattle.path.proofs.Gathers.{gather-more, gather-none, length-gather, strokes-more, strokes-none}
 use Rattle.path.proofs.Pushes.{ink-at, ink-none, ink-append}
 use Rattle.path.proofs.Points.{points-lie, ink-more}
-use Rattle.path_chop.specs.Chop.{tooMany, along, stepsOf, reachOf, cut, span, spans, chopped, choppedBy, choppedOf}
+use Rattle.path_chop.specs.Chop.{tooMany, along, stepsOf, cut, span, spans, chopped, choppedBy, choppedOf}
+use Rattle.path_chop.specs.InnerCounts.{reachOf}
 
 -- ---- the steps of a span
 

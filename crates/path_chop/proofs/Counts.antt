@@ -16,7 +16,8 @@ use Rattle.path.specs.Strokes.{gather}
 use Rattle.path.specs.Laid.{joined, nonEmpty}
 use Rattle.path.proofs.Tests.{split}
 use Rattle.path.proofs.Pushes.{some-kept, none-kept}
-use Rattle.path_chop.specs.Chop.{tooMany, stepsOf, span, spans, chopped, keptOf, capped}
+use Rattle.path_chop.specs.Chop.{tooMany, stepsOf, span, spans, chopped}
+use Rattle.path_chop.specs.InnerCounts.{keptOf, capped}
 use Rattle.path_chop.proofs.Chops.{steps-within, span-count, spans-more, stroke-short, stroke-some}
 
 -- ---- a count that is cut off

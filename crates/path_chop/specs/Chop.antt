@@ -1,8 +1,7 @@
 -- Cutting strokes into steps: a point after each step along a span, the steps a running sum.
 use mathlib.Core.Bool.{cond}
 use mathlib.Core.List.{List, [], _∷_, _++_, map}
-use Prim.Native.Nat.{ℕ, zero, suc, _+_, _/_, min}
-use lib.Dec.{leb}
+use Prim.Native.Nat.{ℕ, zero, suc, _+_, _/_}
 use lib.ListN.{length}
 use lib.Ieee.{Float, binary64, add, div, lt}
 use Rattle.refusal.specs.Limits.{mostPoints}
@@ -51,15 +50,3 @@ abbrev pub choppedOf : Float → List Float → List ℕ → List (List Vector)
 choppedOf step ps ss = choppedBy tooMany step ps ss
 
 -- ---- what the counting and the writing go by
-
--- a length, or the step where no step lies within it: what is cut is the same (`reach-cut`, proofs/Chops)
-abbrev pub reachOf : Float → Float → Float
-reachOf step l = cond (lt step l) l step
-
--- 1 where a stroke of n points leaves something, 0 where it vanishes
-unfoldable pub keptOf : ℕ → ℕ
-keptOf n = cond (leb 2 n) 1 0
-
--- a count of points, no longer counted where it is above the most
-unfoldable pub capped : ℕ → ℕ
-capped n = min n tooMany

@@ -1,3 +1,4 @@
 pub mod Chop
 pub mod Call
 pub mod Cases
+pub mod InnerCounts

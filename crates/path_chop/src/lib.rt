@@ -28,7 +28,8 @@ ghost use Rattle.vector.specs.Vectors.{subOf};
 ghost use Rattle.path.specs.Strokes.{pointAt, gather, strokesOf};
 ghost use Rattle.path.specs.Laid.{putPoints, pen, inked, out, push, pushAll, joined, nonEmpty};
 ghost use Rattle.path.specs.Call.{left};
-ghost use Rattle.path_chop.specs.Chop.{tooMany, along, stepsOf, reachOf, cut, span, spans, chopped, choppedOf, keptOf, capped};
+ghost use Rattle.path_chop.specs.Chop.{tooMany, along, stepsOf, cut, span, spans, chopped, choppedOf};
+ghost use Rattle.path_chop.specs.InnerCounts.{reachOf, keptOf, capped};
 ghost use Rattle.path_chop.specs.Call.{said, roomFor, chopVerdict, chopLeft};
 
 // What a chop wrote, or why it was refused.

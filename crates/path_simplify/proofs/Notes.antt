@@ -11,8 +11,9 @@ use lib.ListN.{length, getD, set, take, drop, length-set, length-take, length-dr
 use lib.Seq.{drop-cons, getD-drop, getD-take}
 use lib.Ieee.{Float}
 use Rattle.vector.specs.declared.Vector.{Vector}
-use Rattle.path_simplify.specs.Simplify.{farthest, splitsAt, splitOf, Thin, nothing, first, parts, thin}
-use Rattle.path_simplify.specs.Notes.{cleared, measured, noted, count, thinAt, plus}
+use Rattle.path_simplify.specs.Simplify.{farthest, splitsAt, Thin, nothing, first, parts, thin}
+use Rattle.path_simplify.specs.InnerSquares.{splitOf}
+use Rattle.path_simplify.specs.InnerNotes.{cleared, measured, noted, count, thinAt, plus}
 use Rattle.path.specs.Laid.{putPoint, putPoints, pen, inked}
 use Rattle.path.proofs.Tests as tests
 use Rattle.path_simplify.proofs.Thins.{splits-in, thin-split, thin-first, first-measured, parts-measured}

@@ -16,7 +16,7 @@ use Rattle.vector.proofs.RootLaws.{rooted, sqrt-monotone, root-some}
 use Rattle.vector.proofs.RootGap.{lt-trans, above-zero, roots-climb}
 use Rattle.path_simplify.specs.declared.Records.{Records}
 use Rattle.path_simplify.specs.Simplify.{fartherOf}
-use Rattle.path_simplify.specs.Squares.{segmentSquareOf, farOf, settledOf, Under, Rising}
+use Rattle.path_simplify.specs.InnerSquares.{segmentSquareOf, farOf, settledOf, Under, Rising}
 
 -- ---- the distance is its root
 

@@ -18,7 +18,7 @@ use Rattle.path.specs.Strokes.{goodFrom, goodStarts}
 use Rattle.path.specs.Laid.{joined}
 use Rattle.path.proofs.Tests.{both, split}
 use Rattle.path_simplify.specs.Simplify.{Thin, nothing, thin, thinned, thinsOf, simplified, distances}
-use Rattle.path_simplify.specs.Notes.{plus}
+use Rattle.path_simplify.specs.InnerNotes.{plus}
 use Rattle.path_simplify.specs.Call.{shortOf}
 use Rattle.path_simplify.proofs.Thins.{Short, short, thin-none}
 

@@ -1,5 +1,5 @@
 pub mod Simplify
-pub mod Squares
-pub mod Notes
+pub mod InnerSquares
+pub mod InnerNotes
 pub mod Call
 pub mod Cases

@@ -8,8 +8,6 @@ use lib.Ieee.{Float, lt}
 use Rattle.vector.specs.declared.Vector.{Vector}
 use Rattle.vector.specs.Lengths.{zero64, segmentDistanceOf}
 use Rattle.path.specs.Strokes.{pointAt}
-use Rattle.path.specs.declared.Place.{Place}
-use Rattle.path_simplify.specs.declared.Progress.{Progress}
 use Rattle.path_simplify.specs.declared.Far.{Far}
 
 -- the farther of two, the first where they are level
@@ -29,10 +27,6 @@ farthest at lo hi = farFrom at (at lo) (at hi) (record { at = lo; far = zero64 }
 -- that a call accepts it says nothing more: `splits-is-above` (proofs/SplitTest)
 unfoldable pub splitsAt : Far → ℕ → Float → Bool
 splitsAt f lo t = lt t (f .far) && ltb lo (f .at)
-
--- the place that splits the points from lo on, lo itself where none does
-unfoldable pub splitOf : Far → ℕ → Float → ℕ
-splitOf f lo t = cond (splitsAt f lo t) (f .at) lo
 
 -- the points kept, and how many distances were measured
 pub record Thin : Type 0 where
@@ -79,7 +73,3 @@ distances (t ∷ ts) = t .measured + distances ts
 -- of a list of points with its table
 abbrev pub simplifiedOf : Float → List Float → List ℕ → List Thin
 simplifiedOf t ps ss = thinsOf t (pointAt ps) (length ps / 3) ss
-
--- the places in the course of a call
-abbrev pub placeOf : Progress → Place
-placeOf w = record { points = w .points; starts = w .starts }

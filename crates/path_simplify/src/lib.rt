@@ -23,10 +23,11 @@ ghost use Rattle.refusal.specs.Limits.{mostPoints, mostToSimplify};
 ghost use Rattle.path.specs.Strokes.{pointAt, goodStarts};
 ghost use Rattle.path.specs.Laid.{putPoints, pen, inked, out, push, pushAll, joined};
 ghost use Rattle.path.specs.Call.{left};
-ghost use Rattle.path_simplify.specs.Simplify.{fartherOf, farthest, splitsAt, splitOf, thin, thinned, simplified, distances, simplifiedOf, placeOf};
+ghost use Rattle.path_simplify.specs.Simplify.{fartherOf, farthest, splitsAt, thin, thinned, simplified, distances, simplifiedOf};
+ghost use Rattle.path_simplify.specs.InnerSquares.{splitOf, placeOf};
 ghost use Rattle.vector.specs.Lengths.{zero64, one64, segmentDistanceOf};
-ghost use Rattle.path_simplify.specs.Squares.{segmentSquareOf, farOf, settledOf, Rising};
-ghost use Rattle.path_simplify.specs.Notes.{notesLong, cleared, measured, noted, count, thinAt, plus};
+ghost use Rattle.path_simplify.specs.InnerSquares.{segmentSquareOf, farOf, settledOf, Rising};
+ghost use Rattle.path_simplify.specs.InnerNotes.{notesLong, cleared, measured, noted, count, thinAt, plus};
 ghost use Rattle.path_simplify.specs.Call.{said, shortOf, roomFor, thresholdGood, simplifyVerdict, simplifyLeft};
 
 // What simplify wrote and how many distances it measured, or why it was refused.

@@ -16,7 +16,7 @@ use Rattle.path.specs.Tests.{countedOf}
 use Rattle.path.proofs.Tests.{passed, both}
 use Rattle.path.proofs.Pushes.{length-starts, over-sets}
 use Rattle.path.proofs.Again.{strokes-count, table-all}
-use Rattle.path_splice.specs.Text.{part, mark, textOf, marksOf, ReadOut, Filled, LaidOut}
+use Rattle.path_splice.specs.InnerText.{part, mark, textOf, marksOf, ReadOut, Filled, LaidOut}
 use Rattle.path_splice.specs.Call.{verdictOf, left, laid}
 use Rattle.order.specs.Regions.{region, put}
 use mathlib.Core.Logic.{⊎-elim}

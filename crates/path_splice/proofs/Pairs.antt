@@ -23,8 +23,8 @@ use Rattle.path_ends.specs.Splice.{splice}
 use Rattle.path_link.specs.Walk.{Woven}
 use Rattle.path_splice.proofs.Answers.{out-points, out-starts, laid-out, wrote}
 use Rattle.path_splice.specs.Call.{left}
-use Rattle.path_splice.specs.Text.{textOf, marksOf, ReadOut, Filled}
-use Rattle.path_splice.specs.Pairs.{pairsOf, Paired, Drawn, fits, pairsLeft}
+use Rattle.path_splice.specs.InnerText.{textOf, marksOf, ReadOut, Filled}
+use Rattle.path_splice.specs.InnerPairs.{pairsOf, Paired, Drawn, fits, pairsLeft}
 use Rattle.refusal.specs.Limits.{mostStrokes, mostPoints}
 
 -- a, a + 2, .. (n of them)

@@ -12,7 +12,7 @@ use lib.Seq.{drop-cons, length-take-le, length-front, take-at, ext-getD}
 use mathlib.Core.Logic.{inr}
 use Rattle.order.specs.Regions.{region, put, Off}
 use Rattle.path.specs.Strokes.{strokesIn}
-use Rattle.path_splice.specs.Text.{Spans, part, mark, textOf, marksOf, ReadOut, Filled}
+use Rattle.path_splice.specs.InnerText.{Spans, part, mark, textOf, marksOf, ReadOut, Filled}
 use Rattle.path_ends.specs.Splice.{turned, readFrom, valueAt, present}
 use Rattle.path_ends.proofs.Ends.{is-zero, not-zero}
 use Rattle.order.proofs.Parts.{put-append, length-region, put-lent, region-off, region-put}

@@ -19,7 +19,7 @@ use Rattle.path.proofs.Starts.{getD-any}
 use Rattle.path.proofs.Tests.{both}
 use Rattle.path.proofs.Gathers.{gather-drop}
 use Rattle.path.proofs.Again.{strokes-count}
-use Rattle.path_splice.specs.Text.{Spans}
+use Rattle.path_splice.specs.InnerText.{Spans}
 use Rattle.path_ends.specs.Splice.{firstOf, lastOf, endOf, valueAt, present}
 use Rattle.order.proofs.Parts.{length-region, get-region}
 

@@ -1,3 +1,3 @@
-pub mod Text
+pub mod InnerText
 pub mod Call
-pub mod Pairs
+pub mod InnerPairs

@@ -19,8 +19,8 @@ ghost use Rattle.refusal.specs.Said.{accepted};
 ghost use Rattle.order.specs.Regions.{region, put, Into2};
 ghost use Rattle.path.specs.Strokes.{goodStarts, strokesIn};
 ghost use Rattle.path_ends.specs.Splice.{valueAt, present, splice as spliceOf};
-ghost use Rattle.path_splice.specs.Text.{Spans, part, mark, textOf, marksOf, ReadOut, Filled, LaidOut};
-ghost use Rattle.path_splice.specs.Pairs.{Paired, Drawn, fits as fitsOf, pairsLeft};
+ghost use Rattle.path_splice.specs.InnerText.{Spans, part, mark, textOf, marksOf, ReadOut, Filled, LaidOut};
+ghost use Rattle.path_splice.specs.InnerPairs.{Paired, Drawn, fits as fitsOf, pairsLeft};
 ghost use Rattle.path_splice.specs.Call.{verdictOf, said, left, spliceLeft};
 ghost use Rattle.refusal.specs.Limits.{mostStrokes, mostPoints};
 

@@ -14,7 +14,7 @@ use Rattle.path.proofs.Gathers.{length-gather}
 use Rattle.path.proofs.Starts.{table-next}
 use Rattle.path.proofs.Tests.{both, split}
 use Rattle.path.proofs.Pushes.{length-starts}
-use Rattle.sheet.specs.Kept.{keptOne, keptFrom}
+use Rattle.sheet.specs.InnerKept.{keptOne, keptFrom}
 use Rattle.sheet.specs.Sheets.{strictFrom, tableGood}
 
 module _ {A : Type 0} (at : ℕ → A) where

@@ -1,2 +1,2 @@
 pub mod Sheets
-pub mod Kept
+pub mod InnerKept

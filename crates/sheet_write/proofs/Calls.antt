@@ -15,7 +15,7 @@ use Rattle.path.specs.Strokes.{goodStarts, numberAt, strokesIn}
 use Rattle.path.specs.Laid.{over, nonEmpty}
 use Rattle.path.proofs.Tests.{passed}
 use Rattle.path.proofs.Pushes.{over-sets}
-use Rattle.sheet.specs.Kept.{keptFrom}
+use Rattle.sheet.specs.InnerKept.{keptFrom}
 use Rattle.sheet.specs.Sheets.{headerWords, numbersFrom, bytesAll, headerOf, wordsOf, sheetOf, sizeOf}
 use Rattle.sheet.proofs.Words.{put-more}
 use Rattle.path.proofs.Again.{joined-all}

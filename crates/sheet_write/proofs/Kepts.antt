@@ -11,7 +11,7 @@ use lib.Seq.{sets, drop-cons, getD-drop}
 use lib.Dec.{ltb}
 use Rattle.sheet.specs.Sheets.{headerWords, numbersFrom, bytesOf, bytesAll, headerOf}
 use Rattle.sheet.proofs.Words.{put-more, put-one, put-none}
-use Rattle.sheet.specs.Kept.{keptAt, keptFrom}
+use Rattle.sheet.specs.InnerKept.{keptAt, keptFrom}
 
 -- one stroke
 module _ (n : ℕ) (ss : List ℕ) (i : ℕ) where

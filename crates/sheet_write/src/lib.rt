@@ -22,7 +22,7 @@ ghost use lib.Seq.{sets};
 ghost use lib.Dec.{leb, ltb};
 ghost use Rattle.refusal.specs.Limits.{mostStrokes, mostPoints};
 ghost use Rattle.sheet.specs.Sheets.{headerWords, numbersFrom, modeWord, bytesAll, headerOf, wordsOf, sizeOf};
-ghost use Rattle.sheet.specs.Kept.{keptAt, keptFrom};
+ghost use Rattle.sheet.specs.InnerKept.{keptAt, keptFrom};
 ghost use Rattle.sheet_write.specs.Call.{verdictOf, said, left, writeLeft};
 
 // What writing a sheet answers: how many bytes were written, or why none were.

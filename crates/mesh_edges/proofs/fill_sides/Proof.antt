@@ -5,7 +5,7 @@ use mathlib.Core.List.{List}
 use Prim.Native.Nat.{ℕ, _+_, _-_, _*_, _≤_}
 use lib.ListN.{length, set, length-set}
 use Rattle.mesh_edges.specs.Edges.{lowOf, highOf}
-use Rattle.mesh_edges.specs.Steps.{sidesTo}
+use Rattle.mesh_edges.specs.InnerSteps.{sidesTo}
 use Rattle.mesh_edges.proofs.Filling.{fill-none, fill-more}
 use borrow.Author.Needs.{needs}
 use Rattle.mesh_edges.proofs.fill_sides.Statement.{statement}

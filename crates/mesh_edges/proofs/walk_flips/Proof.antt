@@ -5,7 +5,7 @@ use mathlib.Core.Path.{_≡_, refl, _∙_}
 use Prim.Native.Nat.{_-_, _*_, _≤_}
 use lib.ListN.{length, drop}
 use Rattle.order.specs.Regions.{region, Into}
-use Rattle.mesh_edges.specs.Steps.{flagAll}
+use Rattle.mesh_edges.specs.InnerSteps.{flagAll}
 use Rattle.mesh_edges.proofs.Flipping.{flagging, flagging-more, flagging-all}
 use borrow.Author.Needs.{needs}
 use Rattle.mesh_edges.proofs.walk_flips.Statement.{statement}

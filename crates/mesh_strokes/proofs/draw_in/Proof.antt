@@ -5,9 +5,9 @@ use mathlib.Core.List.{List}
 use Prim.Native.Nat.{ℕ, _*_}
 use lib.ListN.{length, drop}
 use lib.Ieee.{Float}
-use Rattle.path_splice.specs.Pairs.{pairsLeft}
+use Rattle.path_splice.specs.InnerPairs.{pairsLeft}
 use Rattle.mesh_edges.proofs.Said.{edges-length}
-use Rattle.mesh_strokes.specs.Walk.{KeptIn, flipsFor}
+use Rattle.mesh_strokes.specs.InnerWalk.{KeptIn, flipsFor}
 use Rattle.mesh_strokes.proofs.Steps.{room-for, listed, fitting, all-after, spliced, laid-as, drawing-of}
 use Rattle.mesh_strokes.proofs.draw_in.Statement.{statement}
 use Rattle.mesh_strokes.proofs.draw_in.Tie as tie

@@ -5,7 +5,7 @@ use mathlib.Core.Path.{_≡_, ap, _∙_}
 use Prim.Native.Nat.{ℕ, _+_, _-_, _*_}
 use lib.ListN.{take, drop}
 use Rattle.mesh_keep.specs.Keep.{keptBy, facesOf, seenIn}
-use Rattle.mesh_strokes.specs.Walk.{flipAt}
+use Rattle.mesh_strokes.specs.InnerWalk.{flipAt}
 use Rattle.mesh_strokes.proofs.keeps.Statement.{statement}
 use Rattle.mesh_strokes.proofs.keeps.Tie as tie
 

@@ -3,7 +3,7 @@ use borrow.Author.Needs.{needs}
 use native.Mathlib.Omega.{arith}
 use mathlib.Core.Path.{refl}
 use lib.ListN.{length-set}
-use Rattle.mesh_strokes.specs.Walk.{withPair}
+use Rattle.mesh_strokes.specs.InnerWalk.{withPair}
 use Rattle.mesh_strokes.proofs.put_pair.Statement.{statement}
 use Rattle.mesh_strokes.proofs.put_pair.Tie as tie
 

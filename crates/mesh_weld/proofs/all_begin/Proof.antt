@@ -1,6 +1,6 @@
 -- `all_begin` meets its contract: eight calls.
 use borrow.Author.Needs.{needs}
-use Rattle.mesh_weld.specs.Table.{wayOf}
+use Rattle.mesh_weld.specs.InnerTable.{wayOf}
 use Rattle.mesh_weld.proofs.all_begin.Statement.{statement}
 use Rattle.mesh_weld.proofs.all_begin.Tie as tie
 

@@ -1,5 +1,5 @@
 -- `all_onward` meets its contract: eight calls.
-use Rattle.mesh_weld.specs.Table.{onwardOf}
+use Rattle.mesh_weld.specs.InnerTable.{onwardOf}
 use Rattle.mesh_weld.proofs.all_onward.Statement.{statement}
 use Rattle.mesh_weld.proofs.all_onward.Tie as tie
 

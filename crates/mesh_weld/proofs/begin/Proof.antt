@@ -3,7 +3,7 @@ use Prim.Native.Nat.{ℕ}
 use native.Mathlib.Omega.{arith}
 use lib.ListN.{getD}
 use borrow.Author.Needs.{needs}
-use Rattle.mesh_weld.specs.Table.{wayAt, wayOf, cube}
+use Rattle.mesh_weld.specs.InnerTable.{wayAt, wayOf, cube}
 use Rattle.mesh_weld.proofs.begin.Statement.{statement}
 use Rattle.mesh_weld.proofs.begin.Tie as tie
 

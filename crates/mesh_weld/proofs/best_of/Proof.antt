@@ -2,7 +2,7 @@
 use mathlib.Core.Path.{sym, _∙_}
 use native.Mathlib.Omega.{arith}
 use borrow.Author.Needs.{needs}
-use Rattle.mesh_weld.specs.Table.{listed}
+use Rattle.mesh_weld.specs.InnerTable.{listed}
 use Rattle.mesh_weld.proofs.Walks.{all-far, no-more}
 use Rattle.mesh_weld.proofs.best_of.Statement.{statement}
 use Rattle.mesh_weld.proofs.best_of.Tie as tie

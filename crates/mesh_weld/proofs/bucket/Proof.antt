@@ -1,5 +1,5 @@
 use native.Mathlib.Omega.{arith}
-use Rattle.mesh_weld.specs.Table.{bucketOf}
+use Rattle.mesh_weld.specs.InnerTable.{bucketOf}
 use Rattle.mesh_weld.proofs.Cells.{bucket-fits, bucket-lt}
 use borrow.Author.Needs.{needs}
 use Rattle.mesh_weld.proofs.bucket.Statement.{statement}

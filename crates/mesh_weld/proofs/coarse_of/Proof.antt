@@ -1,5 +1,5 @@
 use mathlib.Core.Path.{refl}
-use Rattle.mesh_weld.specs.Table.{coarseOf}
+use Rattle.mesh_weld.specs.InnerTable.{coarseOf}
 use Rattle.mesh_weld.proofs.coarse_of.Statement.{statement}
 use Rattle.mesh_weld.proofs.coarse_of.Tie as tie
 

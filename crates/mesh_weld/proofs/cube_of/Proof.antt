@@ -1,5 +1,5 @@
 use mathlib.Core.Path.{_≡_, refl, sym, ap, _∙_, subst}
-use Rattle.mesh_weld.specs.Table.{cubeOf}
+use Rattle.mesh_weld.specs.InnerTable.{cubeOf}
 use borrow.Author.Needs.{needs}
 use Rattle.mesh_weld.proofs.cube_of.Statement.{statement}
 use Rattle.mesh_weld.proofs.cube_of.Tie as tie

@@ -1,5 +1,5 @@
 use mathlib.Core.Path.{refl}
-use Rattle.mesh_weld.specs.Table.{equalOf}
+use Rattle.mesh_weld.specs.InnerTable.{equalOf}
 use Rattle.mesh_weld.proofs.equal.Statement.{statement}
 use Rattle.mesh_weld.proofs.equal.Tie as tie
 

@@ -1,7 +1,7 @@
 use mathlib.Core.Path.{_≡_, refl, sym, ap, _∙_, subst}
 use Prim.Native.Nat.{ℕ, _+_, _-_, _*_, _/_, _%_}
 use native.Mathlib.Omega.{arith}
-use Rattle.mesh_weld.specs.Table.{Counted}
+use Rattle.mesh_weld.specs.InnerTable.{Counted}
 use Rattle.mesh_weld.proofs.Cells.{cube-counted}
 use Rattle.mesh_weld.proofs.Ranks.{found, found-at, found-none}
 use Rattle.mesh_weld.proofs.find.Statement.{statement}

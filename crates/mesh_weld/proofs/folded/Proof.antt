@@ -1,6 +1,6 @@
 use mathlib.Core.Path.{refl}
 use native.Mathlib.Omega.{arith}
-use Rattle.mesh_weld.specs.Table.{foldedOf}
+use Rattle.mesh_weld.specs.InnerTable.{foldedOf}
 use borrow.Author.Needs.{needs}
 use Rattle.mesh_weld.proofs.folded.Statement.{statement}
 use Rattle.mesh_weld.proofs.folded.Tie as tie

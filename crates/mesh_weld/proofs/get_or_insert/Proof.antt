@@ -1,7 +1,7 @@
 -- `get_or_insert` meets its contract: a corner that is found takes its vertex's number, and one that is not becomes a vertex and hangs in the table.
 use mathlib.Core.Path.{sym, ap, _∙_}
 use native.Mathlib.Omega.{arith}
-use Rattle.mesh_weld.specs.Table.{coarseOf}
+use Rattle.mesh_weld.specs.InnerTable.{coarseOf}
 use Rattle.mesh_weld.proofs.Finds.{find-below}
 use Rattle.mesh_weld.proofs.Places.{old, new}
 use borrow.Author.Needs.{needs}

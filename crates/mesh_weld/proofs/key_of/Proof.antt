@@ -5,7 +5,7 @@ use native.Mathlib.Omega.{arith}
 use lib.IntN.{ℤ, natAbs}
 use Rattle.vector.specs.Answers.{wholeSaid}
 use Rattle.mesh_weld.specs.Weld.{cell}
-use Rattle.mesh_weld.specs.Table.{key, count}
+use Rattle.mesh_weld.specs.InnerTable.{key, count}
 use Rattle.mesh_weld.proofs.Cells.{read, cell-le, cell-told, key-pos, key-lt}
 use borrow.Author.Needs.{needs}
 use Rattle.mesh_weld.proofs.key_of.Statement.{statement}

@@ -1,7 +1,7 @@
 use mathlib.Core.Path.{_≡_}
 use borrow.Author.Tests.{lt-ltb, le-ltb}
 use native.Mathlib.Omega.{arith}
-use Rattle.mesh_weld.specs.Table.{lesserOf}
+use Rattle.mesh_weld.specs.InnerTable.{lesserOf}
 use Rattle.mesh_weld.proofs.lesser.Statement.{statement}
 use Rattle.mesh_weld.proofs.lesser.Tie as tie
 

@@ -6,7 +6,7 @@ use Prim.Native.Nat.{ℕ, _+_, _-_, _*_, _/_, _<_}
 use native.Mathlib.Omega.{arith}
 use Rattle.mesh_weld.specs.declared.Cube.{Cube}
 use Rattle.mesh_weld.specs.declared.Way.{Way}
-use Rattle.mesh_weld.specs.Table.{scoreAt, onwardOf, wayOf, allWorth, listed, eightFrom, top, About}
+use Rattle.mesh_weld.specs.InnerTable.{scoreAt, onwardOf, wayOf, allWorth, listed, eightFrom, top, About}
 use Rattle.mesh_weld.proofs.Coarse.{in-eight}
 use Rattle.mesh_weld.proofs.Walks.{Looked, looked-start, looked-on, looked-end, walks-few, lefts, lefts-less}
 use Rattle.mesh_weld.proofs.look.Statement.{statement}

@@ -3,7 +3,7 @@ use Prim.Native.Nat.{ℕ, _-_}
 use native.Mathlib.Omega.{arith}
 use lib.ListN.{getD}
 use borrow.Author.Needs.{needs}
-use Rattle.mesh_weld.specs.Table.{onwardOf}
+use Rattle.mesh_weld.specs.InnerTable.{onwardOf}
 use Rattle.mesh_weld.proofs.Walks.{on-ended, on-met}
 use Rattle.mesh_weld.proofs.onward.Statement.{statement}
 use Rattle.mesh_weld.proofs.onward.Tie as tie

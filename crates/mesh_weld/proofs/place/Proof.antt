@@ -2,7 +2,7 @@ use mathlib.Core.Path.{_≡_, refl, sym, ap, _∙_, subst}
 use Prim.Native.Nat.{_+_}
 use native.Mathlib.Omega.{arith}
 use borrow.Author.Tests.{le-leb, lt-leb}
-use Rattle.mesh_weld.specs.Table.{placeOf}
+use Rattle.mesh_weld.specs.InnerTable.{placeOf}
 use borrow.Author.Needs.{needs}
 use Rattle.mesh_weld.proofs.place.Statement.{statement}
 use Rattle.mesh_weld.proofs.place.Tie as tie

@@ -1,7 +1,7 @@
 use mathlib.Core.Path.{_≡_, refl, sym, ap, _∙_, subst}
 use Prim.Native.Nat.{ℕ, _+_, _*_}
 use native.Mathlib.Omega.{arith}
-use Rattle.mesh_weld.specs.Table.{rankOf, placeOf, key}
+use Rattle.mesh_weld.specs.InnerTable.{rankOf, placeOf, key}
 use borrow.Author.Needs.{needs}
 use Rattle.mesh_weld.proofs.rank.Statement.{statement}
 use Rattle.mesh_weld.proofs.rank.Tie as tie

@@ -8,8 +8,8 @@ use native.Mathlib.Numerals.{add-one}
 use lib.ListN.{length, getD, set, length-set, replicate}
 use lib.Ieee.{Float}
 use Rattle.mesh_weld.specs.Weld.{weldOf, weldTo}
-use Rattle.mesh_weld.specs.Table.{Placed, Ready}
-use Rattle.mesh_weld.specs.Call.{Laid}
+use Rattle.mesh_weld.specs.InnerTable.{Placed, Ready}
+use Rattle.mesh_weld.specs.InnerTable.{Laid}
 use Rattle.mesh_weld.proofs.Loop.{Built, built-none, built-more}
 use borrow.Author.Needs.{needs}
 use Rattle.mesh_weld.proofs.weld_all.Statement.{statement}

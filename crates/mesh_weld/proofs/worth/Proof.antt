@@ -4,7 +4,7 @@ use Prim.Native.Nat.{ℕ, _-_}
 use native.Mathlib.Omega.{arith}
 use borrow.Author.Needs.{needs}
 use Rattle.vector.specs.declared.Vector.{Vector}
-use Rattle.mesh_weld.specs.Table.{scoreOf, scoreAt, lesserOf}
+use Rattle.mesh_weld.specs.InnerTable.{scoreOf, scoreAt, lesserOf}
 use Rattle.mesh_weld.proofs.Walks.{worth-ended, worth-met}
 use Rattle.mesh_weld.proofs.worth.Statement.{statement}
 use Rattle.mesh_weld.proofs.worth.Tie as tie

@@ -7,7 +7,8 @@ use Prim.Native.Nat.{_+_, _-_, _*_, _≤_}
 use lib.ListN.{length}
 use lib.Ieee.{Float}
 use Rattle.path.specs.Strokes.{pointAt, gather}
-use Rattle.path_chop.specs.Chop.{tooMany, stepsOf, chopped, capped}
+use Rattle.path_chop.specs.Chop.{tooMany, stepsOf, chopped}
+use Rattle.path_chop.specs.InnerCounts.{capped}
 use Rattle.path_chop.proofs.Counts.{kept-zero, kept-one, cap-under, cap-most}
 use Rattle.path_chop.proofs.Chops.{reach-count, stroke-short, chopped-length}
 use Rattle.path_chop.proofs.Bounds.{product, stroke-bound}

@@ -10,7 +10,8 @@ use lib.ListN.{length, drop, getD}
 use Rattle.vector.specs.declared.Vector.{Vector}
 use Rattle.path.specs.Strokes.{pointAt}
 use Rattle.path.specs.Laid.{joined}
-use Rattle.path_chop.specs.Chop.{tooMany, choppedOf, capped}
+use Rattle.path_chop.specs.Chop.{tooMany, choppedOf}
+use Rattle.path_chop.specs.InnerCounts.{capped}
 use Rattle.path_chop.proofs.Counts.{joined-count, cap-under, cap-most}
 use Rattle.path_chop.proofs.Chops.{chopped-more, chopped-none}
 use Rattle.path_chop.proofs.Bounds.{bound-turn}

@@ -6,7 +6,8 @@ use Rattle.path_chop.proofs.Chops.{reach-is, reach-count, spans-none}
 use lib.Ieee.{Float}
 use Rattle.vector.specs.Lengths.{lengthOf}
 use Rattle.path.specs.Strokes.{pointAt, gather}
-use Rattle.path_chop.specs.Chop.{tooMany, stepsOf, spans, capped}
+use Rattle.path_chop.specs.Chop.{tooMany, stepsOf, spans}
+use Rattle.path_chop.specs.InnerCounts.{capped}
 use lib.ListN.{length}
 use Prim.Native.Nat.{ℕ, _+_, _-_, _≤_}
 use native.Mathlib.Omega.{arith}

@@ -2,7 +2,7 @@
 use Rattle.path_chop.proofs.Counts.{kept-zero, kept-one}
 use Rattle.path_chop.proofs.Chops.{stroke-short, chopped-length}
 use Rattle.path.specs.Strokes.{pointAt}
-use Rattle.path_chop.specs.Chop.{capped}
+use Rattle.path_chop.specs.InnerCounts.{capped}
 use Prim.Native.Nat.{_-_}
 use native.Mathlib.Omega.{arith}
 use mathlib.Core.Path.{sym, ap, _∙_}

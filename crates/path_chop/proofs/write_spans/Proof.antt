@@ -7,7 +7,8 @@ use Rattle.vector.specs.Vectors.{subOf}
 use Rattle.vector.specs.Lengths.{lengthOf}
 use Rattle.path.specs.Strokes.{pointAt, gather}
 use Rattle.path.specs.Laid.{putPoints, pen, inked, out}
-use Rattle.path_chop.specs.Chop.{tooMany, reachOf, spans}
+use Rattle.path_chop.specs.Chop.{tooMany, spans}
+use Rattle.path_chop.specs.InnerCounts.{reachOf}
 use lib.ListN.{length}
 use Prim.Native.Nat.{_-_}
 use native.Mathlib.Omega.{arith}

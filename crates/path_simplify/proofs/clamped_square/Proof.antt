@@ -1,7 +1,7 @@
 -- `clamped_square` meets its contract: a law for each branch.
 use Rattle.vector.proofs.Segments.{no-segment, before-first, after-last, between}
 use Rattle.vector.specs.Vectors.{subOf, dotOf, distanceSquaredOf}
-use Rattle.path_simplify.specs.Squares.{segmentSquareOf}
+use Rattle.path_simplify.specs.InnerSquares.{segmentSquareOf}
 use mathlib.Core.Path.{_≡_, _∙_}
 use borrow.Author.Needs.{needs}
 use Rattle.path_simplify.proofs.clamped_square.Statement.{statement}

@@ -1,7 +1,7 @@
 -- `clear` meets its contract.
 use borrow.Author.Needs.{needs}
 use mathlib.Core.Path.{refl}
-use Rattle.path_simplify.specs.Notes.{cleared}
+use Rattle.path_simplify.specs.InnerNotes.{cleared}
 use Rattle.path_simplify.proofs.clear.Statement.{statement}
 use Rattle.path_simplify.proofs.clear.Tie as tie
 

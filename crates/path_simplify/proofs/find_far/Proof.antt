@@ -5,7 +5,7 @@ use Rattle.path_simplify.proofs.Thins.{far-turn, far-end}
 use Rattle.vector.specs.Lengths.{zero64, segmentDistanceOf}
 use Rattle.vector.specs.declared.Vector.{Vector}
 use Rattle.path_simplify.proofs.Squares.{start-far, start-rising}
-use Rattle.path_simplify.specs.Squares.{farOf, settledOf, Rising}
+use Rattle.path_simplify.specs.InnerSquares.{farOf, settledOf, Rising}
 use Rattle.path.specs.Strokes.{pointAt}
 use Rattle.path_simplify.specs.Simplify.{farFrom, farthest}
 use Prim.Native.Nat.{_+_, _-_, _≤_}

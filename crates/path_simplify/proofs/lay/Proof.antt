@@ -9,7 +9,7 @@ use native.Mathlib.Nat.{add-zero}
 use lib.ListN.{length, take, drop}
 use Rattle.path.specs.Strokes.{pointAt}
 use Rattle.path.specs.Laid.{putPoints}
-use Rattle.path_simplify.specs.Notes.{count, thinAt}
+use Rattle.path_simplify.specs.InnerNotes.{count, thinAt}
 use Rattle.path_simplify.proofs.Notes.{lay-turn, lay-end}
 use Rattle.path_simplify.proofs.lay.Statement.{statement}
 use Rattle.path_simplify.proofs.lay.Tie as tie

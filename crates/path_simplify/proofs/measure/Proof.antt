@@ -1,7 +1,7 @@
 -- `measure` meets its contract.
 use borrow.Author.Needs.{needs}
 use mathlib.Core.Path.{refl}
-use Rattle.path_simplify.specs.Notes.{measured}
+use Rattle.path_simplify.specs.InnerNotes.{measured}
 use Rattle.path_simplify.proofs.measure.Statement.{statement}
 use Rattle.path_simplify.proofs.measure.Tie as tie
 

@@ -1,7 +1,7 @@
 -- `note` meets its contract.
 use borrow.Author.Needs.{needs}
 use mathlib.Core.Path.{refl}
-use Rattle.path_simplify.specs.Notes.{noted}
+use Rattle.path_simplify.specs.InnerNotes.{noted}
 use Rattle.path_simplify.proofs.note.Statement.{statement}
 use Rattle.path_simplify.proofs.note.Tie as tie
 

@@ -2,7 +2,7 @@
 use borrow.Author.Needs.{needs}
 use mathlib.Core.Path.{_≡_}
 use Rattle.vector.specs.Vectors.{subOf, dotOf, distanceSquaredOf}
-use Rattle.path_simplify.specs.Squares.{segmentSquareOf}
+use Rattle.path_simplify.specs.InnerSquares.{segmentSquareOf}
 use Rattle.vector.proofs.Segments.{between}
 use Rattle.path_simplify.proofs.segment_square.Statement.{statement}
 use Rattle.path_simplify.proofs.segment_square.Tie as tie

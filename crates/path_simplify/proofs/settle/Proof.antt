@@ -4,7 +4,7 @@ use mathlib.Core.Path.{_≡_, sym, _∙_}
 use mathlib.Core.Bool.{true, false}
 use lib.Ieee.{lt}
 use Rattle.vector.proofs.RootLaws.{rooted}
-use Rattle.path_simplify.specs.Squares.{settledOf}
+use Rattle.path_simplify.specs.InnerSquares.{settledOf}
 use Rattle.path_simplify.proofs.settle.Statement.{statement}
 use Rattle.path_simplify.proofs.settle.Tie as tie
 

@@ -1,6 +1,6 @@
 -- `split_at` meets its contract.
 use borrow.Author.Needs.{needs}
-use Rattle.path_simplify.specs.Simplify.{splitOf}
+use Rattle.path_simplify.specs.InnerSquares.{splitOf}
 use Rattle.path_simplify.proofs.split_at.Statement.{statement}
 use Rattle.path_simplify.proofs.split_at.Tie as tie
 

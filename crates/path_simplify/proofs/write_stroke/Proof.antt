@@ -3,7 +3,8 @@ use Rattle.path_simplify.proofs.Totals.{thinned-none, thinned-length}
 use Rattle.path.proofs.Pushes.{push-none, push-pen}
 use Rattle.path.specs.Strokes.{pointAt}
 use Rattle.path.specs.Laid.{putPoints, out}
-use Rattle.path_simplify.specs.Simplify.{Thin, placeOf}
+use Rattle.path_simplify.specs.Simplify.{Thin}
+use Rattle.path_simplify.specs.InnerSquares.{placeOf}
 use lib.ListN.{length}
 use native.Mathlib.Omega.{arith}
 use mathlib.Core.Path.{sym, ap}

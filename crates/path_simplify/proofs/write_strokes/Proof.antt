@@ -5,7 +5,8 @@ use Rattle.path_simplify.proofs.Totals.{thins-more, thins-none, more-po
 use Rattle.path.proofs.Pushes.{push-turn, push-end, push-room, push-starts}
 use Rattle.path.specs.Strokes.{pointAt}
 use Rattle.path.specs.Laid.{putPoints, out, pushAll}
-use Rattle.path_simplify.specs.Simplify.{simplified, distances, simplifiedOf, placeOf}
+use Rattle.path_simplify.specs.Simplify.{simplified, distances, simplifiedOf}
+use Rattle.path_simplify.specs.InnerSquares.{placeOf}
 use Prim.Native.Nat.{ℕ, _/_}
 use lib.ListN.{length, drop, getD, length-replicate}
 use Rattle.refusal.specs.Limits.{mostToSimplify}

@@ -6,7 +6,7 @@ use native.Mathlib.Omega.{arith}
 use lib.ListN.{length, length-set}
 use borrow.Author.Needs.{needs}
 use Rattle.order.specs.Regions.{Into2}
-use Rattle.path_splice.specs.Pairs.{Paired}
+use Rattle.path_splice.specs.InnerPairs.{Paired}
 use Rattle.path_splice.proofs.Pairs.{pairing, pairing-more}
 use Rattle.path_splice.proofs.fill_pairs.Statement.{statement}
 use Rattle.path_splice.proofs.fill_pairs.Tie as tie

@@ -1,6 +1,6 @@
 -- `fits` meets its contract.
 use borrow.Author.Tests.{le-leb, lt-leb}
-use Rattle.path_splice.specs.Pairs.{fits}
+use Rattle.path_splice.specs.InnerPairs.{fits}
 use borrow.Author.Needs.{needs}
 use Rattle.path_splice.proofs.fits.Statement.{statement}
 use Rattle.path_splice.proofs.fits.Tie as tie

@@ -4,7 +4,7 @@ use mathlib.Core.Path.{_≡_}
 use Prim.Native.Nat.{_+_, _-_, _≤_}
 use native.Mathlib.Omega.{arith}
 use lib.ListN.{length, drop}
-use Rattle.sheet.specs.Kept.{keptFrom}
+use Rattle.sheet.specs.InnerKept.{keptFrom}
 use Rattle.sheet_write.proofs.Kepts.{count-turn, count-end}
 use Rattle.sheet_write.proofs.kept.Statement.{statement}
 use Rattle.sheet_write.proofs.kept.Tie as tie

@@ -5,7 +5,7 @@ use Prim.Native.Nat.{ℕ, _+_, _*_}
 use lib.ListN.{length}
 use lib.Seq.{sets}
 use Rattle.sheet.specs.Sheets.{bytesAll, headerOf, modeWord}
-use Rattle.sheet.specs.Kept.{keptFrom}
+use Rattle.sheet.specs.InnerKept.{keptFrom}
 use Rattle.sheet_write.proofs.Calls.{all-put}
 use Rattle.sheet_write.proofs.write_all.Statement.{statement}
 use Rattle.sheet_write.proofs.write_all.Tie as tie

@@ -3,7 +3,7 @@ use mathlib.Core.Path.{sym, _∙_}
 use native.Mathlib.Omega.{arith}
 use lib.ListN.{length}
 use Rattle.sheet.proofs.Sizes.{words-size}
-use Rattle.sheet.specs.Kept.{keptFrom}
+use Rattle.sheet.specs.InnerKept.{keptFrom}
 use Rattle.sheet.specs.Sheets.{modeWord}
 use Rattle.sheet_write.specs.Call.{writeLeft}
 use Rattle.refusal.proofs.Outcomes.{accept, refuse}

@@ -7,7 +7,7 @@ use Rattle.path_adaptive.proofs.Walks.{from-more, from-none}
 use Rattle.path_adaptive.proofs.Tallies.{spent-none, spent-join}
 use Rattle.path_adaptive.specs.Tally.{spent}
 use Rattle.path_adaptive.specs.Walk.{shownOf, walkFrom}
-use Rattle.path_adaptive.specs.Measure.{tallyOf}
+use Rattle.path_adaptive.specs.InnerMeasure.{tallyOf}
 use Prim.Native.Nat.{ℕ, _+_, _-_}
 use native.Mathlib.Omega.{arith}
 use mathlib.Core.Path.{_≡_, refl, sym, ap, _∙_}

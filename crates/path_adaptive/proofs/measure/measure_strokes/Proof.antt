@@ -4,7 +4,7 @@ use borrow.Author.Needs.{needs}
 use Rattle.path_adaptive.proofs.Tallies.{walks-more, walks-none, more-spent, more-less}
 use Rattle.path_adaptive.specs.Tally.{spentAll}
 use Rattle.path_adaptive.specs.Walk.{walksOf}
-use Rattle.path_adaptive.specs.Measure.{pointsOf}
+use Rattle.path_adaptive.specs.InnerMeasure.{pointsOf}
 use Rattle.refusal.specs.Limits.{mostPoints}
 use lib.ListN.{length, drop}
 use Prim.Native.Nat.{_-_, _≤_, zero-le}

@@ -1,6 +1,6 @@
 -- `tally_of` meets its contract.
 use Rattle.path_adaptive.proofs.Meets.{points-left}
-use Rattle.path_adaptive.specs.Measure.{tallyOf}
+use Rattle.path_adaptive.specs.InnerMeasure.{tallyOf}
 use Rattle.refusal.specs.Limits.{mostPoints}
 use native.Mathlib.Omega.{arith}
 use mathlib.Core.Path.{sym}

@@ -3,7 +3,7 @@
 use borrow.Author.Needs.{needs}
 use Rattle.path.specs.Strokes.{pointAt, gather}
 use Rattle.path_adaptive.specs.Walk.{shownOf, walk, walkFrom}
-use Rattle.path_adaptive.specs.Write.{Fits}
+use Rattle.path_adaptive.specs.InnerWrite.{Fits}
 use Rattle.path_adaptive.proofs.Walks.{Both, join-both, from-more, from-none}
 use Rattle.path_adaptive.proofs.Inks.{Rest, left-fits, right-fits, rest-turn, rest-end}
 use lib.ListN.{length}

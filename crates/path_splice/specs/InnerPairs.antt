@@ -11,7 +11,7 @@ use Rattle.refusal.specs.Said.{accepted}
 use Rattle.refusal.specs.Outcome.{Outcome}
 use Rattle.path.specs.Laid.{over}
 use Rattle.path_ends.specs.Splice.{splice}
-use Rattle.path_splice.specs.Text.{LaidOut}
+use Rattle.path_splice.specs.InnerText.{LaidOut}
 use Rattle.path_splice.specs.Call.{Lent, left, laid}
 
 -- each two points a stroke

@@ -15,7 +15,16 @@ use Rattle.mesh_weld.specs.declared.Way.{Way}
 use Rattle.mesh_weld.specs.declared.Ways.{Ways}
 use Rattle.mesh_weld.specs.declared.Found.{Found}
 use Rattle.mesh_weld.specs.declared.Found.the-variants.{At, Nothing}
-use Rattle.mesh_weld.specs.Weld.{cell, near, find}
+use Rattle.mesh_weld.specs.Weld.{cell, near, find, weldOf}
+use lib.Seq.{sets}
+
+-- what the loop over the corners leaves
+pub record Laid (cs : List Float) (vs : List Float) (is : List ℕ) (vs′ : List Float) (is′ : List ℕ) (r : ℕ) : Type 0 where
+  pub vertices : vs′ ≡ sets vs 0 (weldOf cs .vertices)
+  pub indices : is′ ≡ sets is 0 (weldOf cs .indices)
+  pub count : r ≡ weldOf cs .count
+  pub length-vertices : length (weldOf cs .vertices) ≤ length vs
+  pub length-indices : length (weldOf cs .indices) ≡ length cs / 3
 
 -- cells counted up from a number below all of them
 unfoldable pub count : ℤ → ℕ

@@ -9,7 +9,7 @@ use lib.Ieee.{Float}
 use Rattle.refusal.specs.Limits.{mostFaces}
 use Rattle.order.specs.Regions.{region}
 use Rattle.vector.specs.declared.Vector.{Vector}
-use Rattle.path_splice.specs.Pairs.{pairsOf}
+use Rattle.path_splice.specs.InnerPairs.{pairsOf}
 use Rattle.mesh.specs.Meshes.{faceAt}
 use Rattle.mesh_mode.specs.declared.Mode.{Mode}
 use Rattle.mesh_mode.specs.Modes.{needsOf}
