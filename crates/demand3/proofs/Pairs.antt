@@ -1,4 +1,4 @@
--- The list of kept edges names each kept pair once, and no other pair. Assumes nothing.
+-- The list of kept edges names each kept pair once, and no other pair.
 -- The sides between a and b have one key, so the sort keeps them together and in their order: they are one group of the sorted list, and what is
 -- drawn of the pair is what the mode says of that group. All other groups draw other pairs.
 use mathlib.Core.Path.{_≡_, refl, sym, ap, _∙_, subst}
@@ -13,9 +13,9 @@ use lib.ListN.{length, getD, take, drop, length-drop, take-append-drop}
 use Rattle.order.specs.Order.{insert, order}
 use Rattle.order.proofs.Tests.{truth, clash, eqb-true, eqb-self, both-left, both-right, le-or}
 use Rattle.order.proofs.Sorted.{In, Before, Sorted, single, insert-front, insert-later}
-use Rattle.path_ends.specs.Demand.{sum, along, one, isPair, drawn}
-use Rattle.path_ends.proofs.Bags.{pair-turn}
-use Rattle.path_ends.proofs.Numbers.{numbers}
+use Rattle.path_splice_rule.specs.Demand.{sum, overPairs, one, isPair, drawn}
+use Rattle.path_splice_rule.proofs.Bags.{pair-turn}
+use Rattle.path_splice_rule.proofs.Numbers.{numbers}
 use Rattle.mesh_edges.specs.Edges.{faceOf, nextCorner, lowOf, highOf, pairOf, upFrom, sidesOf, groupsOf, edgesOf}
 use Rattle.mesh_edges.specs.Words.{alike}
 use Rattle.mesh_edges.proofs.Groups.{alike-none, alike-yes, alike-no, edge-first}
@@ -227,7 +227,7 @@ module _ (keep : List ℕ → Bool) (is : List ℕ) (words : (k : ℕ) → getD 
   count-none = refl
 
   two : (l h : ℕ) (ss : List (List ℕ)) → drawn eqb a b ((l ∷ h ∷ []) ∷ ss) ≡ isPair eqb a b l h + drawn eqb a b ss
-  unfolding drawn sum along
+  unfolding drawn sum overPairs
   two l h ss = omega arith
 
   module _ (x : ℕ) (xs : List ℕ) where

@@ -1,4 +1,4 @@
--- Demand 3 of every accepted `draw` and of every accepted `splice`. Assumes nothing.
+-- Demand 3 of every accepted `draw` and of every accepted `splice`.
 use mathlib.Core.Path.{_≡_, refl, sym, ap, _∙_, subst}
 use mathlib.Core.Bool.{true}
 use mathlib.Core.List.{List, [], _∷_}
@@ -17,10 +17,10 @@ use Rattle.refusal.proofs.Outcomes.{was-accepted}
 use Rattle.path.specs.Laid.{over, joined, startsFrom}
 use Rattle.path.proofs.Tests.{passed, both}
 use Rattle.path.proofs.Again.{laid-again}
-use Rattle.path_ends.specs.Demand.{one, drawn, degree, Demand3}
-use Rattle.path_ends.specs.Splice.{splice}
-use Rattle.path_ends.proofs.Bags.{bags}
-use Rattle.path_ends.proofs.Numbers.{numbers, on-numbers}
+use Rattle.path_splice_rule.specs.Demand.{one, drawn, degree, Demand3}
+use Rattle.path_splice_rule.specs.Splice.{splice}
+use Rattle.path_splice_rule.proofs.Bags.{bags}
+use Rattle.path_splice_rule.proofs.Numbers.{numbers, on-numbers}
 use Rattle.path.specs.Strokes.{strokesIn}
 use Rattle.path_splice.specs.Call as S
 use Rattle.path_splice.specs.declared.Spliced.the-variants as spliced

@@ -10,7 +10,7 @@ use lib.Ieee.{Float}
 use lib.ListN.{length, getD, take}
 use Rattle.vector.specs.declared.Vector.{Vector}
 use Rattle.path.specs.Strokes.{strokesIn}
-use Rattle.path_ends.specs.Demand.{drawn, degree, openCount, endsOpen}
+use Rattle.path_splice_rule.specs.Demand.{drawn, degree, openCount, endsOpen}
 use Rattle.mesh_mode.specs.declared.Mode.{Mode}
 use Rattle.mesh_edges.specs.Edges.{faceOf, nextCorner, upFrom}
 use Rattle.mesh_strokes.specs.Draw.{kept, seenBy}

@@ -1,5 +1,4 @@
 -- The mates, written group after group, and what the flag of an edge of two sides is.
--- Assumes nothing.
 use mathlib.Core.Path.{_≡_, refl, sym, ap, _∙_, subst}
 use mathlib.Core.Bool.{true, cond}
 use mathlib.Core.Logic.{_⊎_, inl, inr, _≢_, ⊎-elim}

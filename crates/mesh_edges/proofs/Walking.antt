@@ -1,5 +1,4 @@
 -- A walk over the edges by the words that say them, for callers: `done` are the edges before place p.
--- Assumes nothing.
 use mathlib.Core.Path.{_≡_, refl, sym, ap, _∙_}
 use mathlib.Core.Bool.{cond}
 use mathlib.Core.List.{List, [], _∷_, _++_}

@@ -12,7 +12,8 @@ use Rattle.refusal.specs.Limits.{mostFaces, mostVertices}
 use Rattle.refusal.specs.declared.Verdict.the-variants.{Accepted}
 use Rattle.vector.specs.declared.Vector.{Vector}
 use Rattle.path.specs.declared.Place.{Place}
-use Rattle.path.specs.Laid.{out, push, putPoint, putPoints, joined, nonEmpty}
+use Rattle.path.specs.Laid.{joined, nonEmpty}
+use Rattle.path.specs.InnerPushes.{out, push, putPoint, putPoints}
 use Rattle.path.proofs.Pushes.{no-more-kept}
 use Rattle.path.proofs.Tests.{passed, both}
 use Rattle.mesh.specs.declared.Triangle.{Triangle}

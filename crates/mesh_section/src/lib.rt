@@ -19,7 +19,7 @@ ghost use lib.ListN.{length, getD};
 ghost use lib.Ieee.{binary64, div};
 ghost use Rattle.mesh.specs.Meshes.{cornerAt, faceAt, reachOf};
 ghost use Rattle.refusal.specs.Limits.{mostFaces, mostStrokes, mostPoints};
-ghost use Rattle.path.specs.Laid.{out, push, pushAll, putPoints};
+ghost use Rattle.path.specs.InnerPushes.{out, push, pushAll, putPoints};
 ghost use Rattle.path.specs.Call.{left};
 ghost use Rattle.mesh_section.specs.Section.{segmentHit, runsAlong, within, twoOf, triangleCut, cutStroke, facesCut};
 ghost use Rattle.mesh_section.specs.Call.{said, numbersGood, roomFor, verdictOf, sectionLeft};

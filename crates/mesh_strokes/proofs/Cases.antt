@@ -6,7 +6,7 @@ use Rattle.order.specs.Order.{insert, order}
 use Rattle.vector.specs.Abs.{absOf}
 use Rattle.vector.specs.Root.{rootOf}
 use Rattle.path.specs.Strokes.{pointAt}
-use Rattle.path_ends.specs.Splice.{splice, links, linkFrom, linkEnd, tie, pick, onward, after, run, from, pass, atFree, atLast, chainsOf, lastOf, firstOf, present, endOf, turned, valueAt, joinable, readFrom, added, readChain}
+use Rattle.path_splice_rule.specs.Splice.{splice, links, linkFrom, linkEnd, tie, pick, onward, after, run, from, pass, atFree, atLast, chainsOf, lastOf, firstOf, present, endOf, turned, valueAt, joinable, readFrom, added, readChain}
 use Rattle.mesh_seen.specs.Normals.{normalOf, facingOf}
 use Rattle.mesh_edges.specs.Edges.{upFrom, sidesOf, grow, groupsOf, edgesOf}
 use Rattle.mesh_edges.specs.Flips.{flipped}

@@ -4,8 +4,8 @@ use Prim.Native.Nat.{ℕ}
 use lib.Dec.{eqb}
 use lib.Ieee.{Float}
 use Rattle.vector.specs.declared.Vector.{Vector}
-use Rattle.path_ends.specs.Demand.{Demand3}
-use Rattle.path_ends.proofs.Numbers.{on-numbers}
+use Rattle.path_splice_rule.specs.Demand.{Demand3}
+use Rattle.path_splice_rule.proofs.Numbers.{on-numbers}
 use Rattle.mesh_mode.specs.declared.Mode.{Mode}
 use Rattle.mesh_strokes.specs.Draw.{keptOf, drawingOf}
 

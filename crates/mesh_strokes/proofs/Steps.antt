@@ -16,7 +16,7 @@ use Rattle.vector.specs.declared.Vector.{Vector}
 use Rattle.vector.specs.Lengths.{zero64}
 use Rattle.path.specs.Laid.{over, joined, startsFrom}
 use Rattle.path.proofs.Tests.{both}
-use Rattle.path_ends.specs.Splice.{splice}
+use Rattle.path_splice_rule.specs.Splice.{splice}
 use Rattle.path_splice.specs.Call as S
 use Rattle.path_splice.specs.InnerPairs.{pairsOf, fits, pairsLeft}
 use Rattle.path_splice.specs.InnerText.{LaidOut}

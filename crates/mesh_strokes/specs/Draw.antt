@@ -5,7 +5,7 @@ use Prim.Native.Nat.{ℕ, min, max}
 use lib.Dec.{eqb}
 use lib.Ieee.{Float}
 use Rattle.vector.specs.declared.Vector.{Vector}
-use Rattle.path_ends.specs.Splice.{splice}
+use Rattle.path_splice_rule.specs.Splice.{splice}
 use Rattle.mesh.specs.Meshes.{faceAt}
 use Rattle.mesh_mode.specs.declared.Mode.{Mode}
 use Rattle.mesh_seen.specs.Normals.{normalOf, facingOf}

@@ -1,4 +1,4 @@
--- Cells as numbers that are counted up. Assumes nothing.
+-- Cells as numbers that are counted up.
 use mathlib.Core.Path.{_≡_, refl, sym, ap, _∙_, subst}
 use mathlib.Core.Bool.{Bool, true, false, cond, _&&_}
 use Prim.Native.Nat.{ℕ, zero, suc, _+_, _-_, _*_, _/_, _^_, _≤_, _<_}

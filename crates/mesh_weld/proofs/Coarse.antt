@@ -1,4 +1,4 @@
--- The 27 cells about one lie in eight coarse cells. Assumes nothing.
+-- The 27 cells about one lie in eight coarse cells.
 use Rattle.path.specs.Strokes.{pointAt}
 use mathlib.Core.Path.{_≡_, refl, ap, _∙_, subst, sym}
 use mathlib.Core.Bool.{Bool, true, false}

@@ -1,4 +1,4 @@
--- Equal coordinates lie in one cell, -0 and 0 too. Assumes nothing.
+-- Equal coordinates lie in one cell, -0 and 0 too.
 use mathlib.Core.Path.{_≡_, refl, sym, ap, _∙_}
 use mathlib.Core.Bool.{Bool, true, false, _&&_, _||_, Bool·beq, true≢false}
 use Prim.Native.Nat.{ℕ, zero, suc, _+_, _-_, _*_, _/_, _^_, _<_}

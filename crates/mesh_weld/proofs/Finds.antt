@@ -1,4 +1,4 @@
--- The search by counted cells is the search of the definition. Assumes nothing.
+-- The search by counted cells is the search of the definition.
 use Rattle.path.specs.Strokes.{pointAt}
 use mathlib.Core.Path.{_≡_, refl, sym, ap, _∙_, subst}
 use mathlib.Core.Bool.{Bool, true, false, cond, _&&_}

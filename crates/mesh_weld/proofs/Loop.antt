@@ -1,6 +1,6 @@
--- The loop over the corners. Assumes nothing.
+-- The loop over the corners.
 use Rattle.path.specs.Strokes.{pointAt}
-use Rattle.path.specs.Laid.{putPoint}
+use Rattle.path.specs.InnerPushes.{putPoint}
 use mathlib.Core.Path.{_≡_, refl, sym, ap, _∙_}
 use mathlib.Core.Bool.{_&&_}
 use mathlib.Core.List.{List, [], _∷_, _++_}

@@ -1,6 +1,6 @@
--- One corner: what stands where in the flat lists. Assumes nothing.
+-- One corner: what stands where in the flat lists.
 use Rattle.path.specs.Strokes.{pointAt}
-use Rattle.path.specs.Laid.{putPoint}
+use Rattle.path.specs.InnerPushes.{putPoint}
 use mathlib.Core.Path.{_≡_, sym, _∙_, subst}
 use mathlib.Core.List.{List}
 use Prim.Native.Nat.{ℕ, _+_, _*_, _<_}

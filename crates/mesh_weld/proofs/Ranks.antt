@@ -1,4 +1,4 @@
--- The least of what the vertices are worth is the vertex that the definition finds. Assumes nothing.
+-- The least of what the vertices are worth is the vertex that the definition finds.
 use Rattle.path.specs.Strokes.{pointAt}
 use mathlib.Core.Path.{_≡_, refl, sym, ap, _∙_, subst}
 use mathlib.Core.Bool.{Bool, true, false, cond, _&&_, true≢false}

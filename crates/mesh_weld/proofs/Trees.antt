@@ -1,4 +1,4 @@
--- The trees of the table. Assumes nothing.
+-- The trees of the table.
 use mathlib.Core.Path.{_≡_, refl, sym, ap, _∙_, subst}
 use mathlib.Core.Bool.{Bool, true, false}
 use mathlib.Core.List.{List}

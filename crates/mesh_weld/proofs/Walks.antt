@@ -1,4 +1,4 @@
--- The way of a coarse cell passes all that are in it, and ends. Assumes nothing.
+-- The way of a coarse cell passes all that are in it, and ends.
 use mathlib.Core.Path.{_≡_, refl, sym, ap, _∙_, subst}
 use mathlib.Core.Bool.{Bool, true, false, cond}
 use mathlib.Core.List.{List, [], _∷_, map}

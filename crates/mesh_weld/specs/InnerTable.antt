@@ -1,6 +1,6 @@
 -- How the code finds the vertices of a cell: a table of digital search trees in scratch.
 use Rattle.path.specs.Strokes.{pointAt}
-use Rattle.path.specs.Laid.{putPoint}
+use Rattle.path.specs.InnerPushes.{putPoint}
 use mathlib.Core.Path.{_≡_}
 use mathlib.Core.Bool.{Bool, true, false, cond, _&&_}
 use mathlib.Core.List.{List, [], _∷_}

@@ -1,5 +1,4 @@
 -- Small facts on tests and numbers.
--- Assumes nothing.
 use mathlib.Core.Path.{_≡_, refl, sym, subst}
 use mathlib.Core.Bool.{Bool, true, false, _&&_, not}
 use mathlib.Core.Logic.{_⊎_, inl, inr, _≢_, ⊎-elim}

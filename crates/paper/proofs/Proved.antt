@@ -2,7 +2,7 @@
 use mathlib.Core.Path.{refl}
 use mathlib.Core.List.{List, [], _∷_, _++_, map}
 use Rattle.refusal.specs.Each.{Each}
-use Rattle.path_ends.specs.Splice.{splice, links, linkFrom, linkEnd, tie, pick, onward, after, run, from, pass, atFree, atLast, chainsOf, lastOf, firstOf, present, endOf, turned, valueAt, joinable, readFrom, added, readChain}
+use Rattle.path_splice_rule.specs.Splice.{splice, links, linkFrom, linkEnd, tie, pick, onward, after, run, from, pass, atFree, atLast, chainsOf, lastOf, firstOf, present, endOf, turned, valueAt, joinable, readFrom, added, readChain}
 use Rattle.paper.specs.Paper.{Case, arithmetic, cut, halved, simplified, welded, drawn, written, listed, Holds, splices, paper}
 use Rattle.vector.specs.Cases as N
 use Rattle.vector.proofs.Cases as vectors

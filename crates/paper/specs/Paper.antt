@@ -3,7 +3,7 @@ use mathlib.Core.Path.{_≡_}
 use mathlib.Core.List.{List, [], _∷_, _++_, map}
 use Prim.Native.Nat.{ℕ}
 use lib.Dec.{eqb}
-use Rattle.path_ends.specs.Splice.{splice}
+use Rattle.path_splice_rule.specs.Splice.{splice}
 use Rattle.vector.specs.Cases as N
 use Rattle.path_chop.specs.Cases as C
 use Rattle.path_adaptive.specs.Cases as A

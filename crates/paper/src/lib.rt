@@ -1,1 +1,1 @@
-// The cases that the paper marks as proved, of all layers, as one statement over one list: specs/Paper and proofs/Paper.
+// The cases that the paper marks as proved, of all layers, as one statement over one list: specs/Paper and proofs/Proved.

@@ -1,4 +1,4 @@
--- Strokes are read back from their elements in a row and their starts, whatever the elements are. Assumes nothing.
+-- Strokes are read back from their elements in a row and their starts, whatever the elements are.
 use mathlib.Core.Path.{_≡_, refl, sym, ap, _∙_}
 use mathlib.Core.Bool.{true}
 use mathlib.Core.List.{List, [], _∷_, _++_, append-nil}

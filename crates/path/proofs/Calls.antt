@@ -1,4 +1,4 @@
--- What an accepted call on points leaves. Assumes nothing.
+-- What an accepted call on points leaves.
 use mathlib.Core.Path.{_≡_, ap}
 use mathlib.Core.List.{List, _∷_}
 use Prim.Native.Nat.{ℕ, _*_, _≤_}
@@ -7,7 +7,8 @@ use lib.Ieee.{Float}
 use Rattle.refusal.specs.Said.{accepted}
 use Rattle.refusal.specs.Outcome.{Outcome}
 use Rattle.vector.specs.declared.Vector.{Vector}
-use Rattle.path.specs.Laid.{Out, out, pushAll, joined, nonEmpty, putPoints}
+use Rattle.path.specs.Laid.{joined, nonEmpty}
+use Rattle.path.specs.InnerPushes.{Out, out, pushAll, putPoints}
 use Rattle.path.specs.Call.{Lent, left, laid}
 use Rattle.path.proofs.Pushes.{all-laid, front}
 use Rattle.path.proofs.Points.{points-lie}

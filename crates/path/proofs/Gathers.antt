@@ -1,4 +1,4 @@
--- Laws of strokes read from a list by place. Assumes nothing.
+-- Laws of strokes read from a list by place.
 use mathlib.Core.Path.{_≡_, refl, ap, _∙_}
 use mathlib.Core.List.{List, [], _∷_, map}
 use Prim.Native.Nat.{ℕ, zero, suc, _+_, _-_, _≤_, _<_}

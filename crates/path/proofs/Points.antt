@@ -1,4 +1,4 @@
--- How points and how numbers lie in a lent list. Assumes nothing.
+-- How points and how numbers lie in a lent list.
 use mathlib.Core.Path.{_≡_, refl, _∙_}
 use mathlib.Core.List.{List, [], _∷_, _++_}
 use Prim.Native.Nat.{ℕ, suc, _+_, _*_, _≤_}
@@ -9,7 +9,8 @@ use lib.Seq.{sets, set-out}
 use lib.Ieee.{Float, nan}
 use Rattle.vector.specs.declared.Vector.{Vector}
 use Rattle.path.specs.Strokes.{pointAt}
-use Rattle.path.specs.Laid.{flat, putPoint, putPoints, pen, inked}
+use Rattle.path.specs.Laid.{flat}
+use Rattle.path.specs.InnerPushes.{putPoint, putPoints, course, advanced}
 use Rattle.path.proofs.Pushes.{Lays, over-sets}
 
 -- past the end there is nothing to read, and nothing is stored
@@ -58,6 +59,6 @@ pub numbers-lie : Lays (sets {A = ℕ}) (λ ns. ns) 1
 numbers-lie = record { none = λ l i. refl; more = sets-append; fore = λ l new h. over-sets l new (omega arith) }
 
 -- one point more, written before the others
-pub ink-more : (b : List Float) (i : ℕ) (v : Vector) (vs : List Vector) → inked putPoints (pen (putPoint b i v) (i + 1)) vs ≡ inked putPoints (pen b i) (v ∷ vs)
-unfolding inked putPoints
+pub ink-more : (b : List Float) (i : ℕ) (v : Vector) (vs : List Vector) → advanced putPoints (course (putPoint b i v) (i + 1)) vs ≡ advanced putPoints (course b i) (v ∷ vs)
+unfolding advanced putPoints
 ink-more b i v vs = let e : i + suc (length vs) ≡ i + 1 + length vs = omega arith in rw e

@@ -1,4 +1,4 @@
--- Laws of strokes laid into two lent lists, once over the element. Assumes nothing.
+-- Laws of strokes laid into two lent lists, once over the element.
 use mathlib.Core.Path.{_≡_, refl, sym, ap, _∙_}
 use mathlib.Core.List.{List, [], _∷_, _++_}
 use Prim.Native.Nat.{ℕ, suc, _+_, _*_, _≤_, _<_}
@@ -8,7 +8,8 @@ use native.Mathlib.Nat.{add-zero, add-assoc}
 use lib.ListN.{length, set, length-append}
 use lib.Seq.{sets, sets-eq}
 use Rattle.path.specs.declared.Place.{Place}
-use Rattle.path.specs.Laid.{over, nonEmpty, joined, startsFrom, Pen, pen, Out, out, inked, push, pushAll}
+use Rattle.path.specs.Laid.{over, nonEmpty, joined, startsFrom}
+use Rattle.path.specs.InnerPushes.{Course, course, Out, out, advanced, push, pushAll}
 
 -- the two places where nothing is written yet
 abbrev pub front : Place
@@ -43,13 +44,13 @@ pub same-out : {B : Type 0} {a b : List B} {d e : List ℕ} {p q : Place} → a 
 same-out x y z = cc
 
 module _ {A B : Type 0} (put : List B → ℕ → List A → List B) where
-  pub ink-at : (p q : Pen B) (a b : List A) → inked put p a ≡ inked put q b → p .at + length a ≡ q .at + length b
-  unfolding inked
-  ink-at p q a b e = ap (λ (x : Pen B). x .at) e
+  pub ink-at : (p q : Course B) (a b : List A) → advanced put p a ≡ advanced put q b → p .at + length a ≡ q .at + length b
+  unfolding advanced
+  ink-at p q a b e = ap (λ (x : Course B). x .at) e
 
-  pub ink-place : (p : Pen B) (s : List A) {q : List B} {o : ℕ} → pen q o ≡ inked put p s → o ≡ p .at + length s
-  unfolding inked
-  ink-place p s e = ap (λ (x : Pen B). x .at) e
+  pub ink-place : (p : Course B) (s : List A) {q : List B} {o : ℕ} → course q o ≡ advanced put p s → o ≡ p .at + length s
+  unfolding advanced
+  ink-place p s e = ap (λ (x : Course B). x .at) e
 
   pub push-none : (o : Out B) (s : List A) → length s ≡ 0 → push put o s ≡ o
   unfolding push
@@ -62,13 +63,13 @@ module _ {A B : Type 0} (put : List B → ℕ → List A → List B) where
   push-some o [] h = absurd (omega arith)
   push-some o (x ∷ xs) h = refl
 
-  -- elements written with a pen, and the start: one push
-  pub push-pen : (o : Out B) (s : List A) → 0 < length s → (q : List B) (k : ℕ) → pen q k ≡ inked put (pen (o .buf) (o .place .points)) s
+  -- elements written one after the other, and the start: one push
+  pub push-course : (o : Out B) (s : List A) → 0 < length s → (q : List B) (k : ℕ) → course q k ≡ advanced put (course (o .buf) (o .place .points)) s
       → out q (set (o .starts) (o .place .starts) (o .place .points)) (record { points = k; starts = o .place .starts + 1 }) ≡ push put o s
-  unfolding inked
-  push-pen o s h q k e =
-      let a : q ≡ put (o .buf) (o .place .points) s = ap (λ (p : Pen B). p .buf) e in
-      let b : k ≡ o .place .points + length s = ap (λ (p : Pen B). p .at) e in
+  unfolding advanced
+  push-course o s h q k e =
+      let a : q ≡ put (o .buf) (o .place .points) s = ap (λ (p : Course B). p .buf) e in
+      let b : k ≡ o .place .points + length s = ap (λ (p : Course B). p .at) e in
       cc (push-some o s h)
 
   -- a turn of a loop over strokes, and its end
@@ -121,12 +122,12 @@ pub record Lays {A B : Type 0} (put : List B → ℕ → List A → List B) (fla
   pub fore : (l : List B) (new : List A) → length new * width ≤ length l → put l 0 new ≡ over l (flat new)
 
 module _ {A B : Type 0} {put : List B → ℕ → List A → List B} {flat : List A → List B} {width : ℕ} (lays : Lays put flat width) where
-  pub ink-none : (p : Pen B) → inked put p [] ≡ p
-  unfolding inked
+  pub ink-none : (p : Course B) → advanced put p [] ≡ p
+  unfolding advanced
   ink-none p = rw (lays .none (p .buf) (p .at), add-zero)
 
-  pub ink-append : (p : Pen B) (a b : List A) → inked put (inked put p a) b ≡ inked put p (a ++ b)
-  unfolding inked
+  pub ink-append : (p : Course B) (a b : List A) → advanced put (advanced put p a) b ≡ advanced put p (a ++ b)
+  unfolding advanced
   ink-append p a b = rw (lays .more (p .buf) (p .at) a b, length-append a b, add-assoc (p .at) (length a) (length b))
 
   pub all-buf : (o : Out B) (ss : List (List A)) → pushAll put o ss .buf ≡ put (o .buf) (o .place .points) (joined ss)

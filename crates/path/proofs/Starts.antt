@@ -1,4 +1,4 @@
--- Laws of a start table, read from the front. Assumes nothing.
+-- Laws of a start table, read from the front.
 use mathlib.Core.Path.{_≡_, refl}
 use mathlib.Core.Bool.{true, false, _&&_}
 use mathlib.Core.List.{List, [], _∷_}

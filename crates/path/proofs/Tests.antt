@@ -1,4 +1,4 @@
--- Laws of the tests before a call. Assumes nothing.
+-- Laws of the tests before a call.
 use mathlib.Core.Path.{_≡_, refl, sym, ap}
 use mathlib.Core.Logic.{_⊎_, inl, inr}
 use mathlib.Core.Bool.{Bool, true, false, cond, _&&_, true≢false}

@@ -1,4 +1,5 @@
 pub mod Strokes
 pub mod Laid
+pub mod InnerPushes
 pub mod Call
 pub mod Tests

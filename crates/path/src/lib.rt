@@ -8,7 +8,7 @@ ghost use Prim.Native.Nat.{_+_, _*_};
 ghost use lib.ListN.{getD, set};
 ghost use lib.Ieee.{nan};
 ghost use Rattle.path.specs.Strokes.{goodStarts, pointAt};
-ghost use Rattle.path.specs.Laid.{putPoint};
+ghost use Rattle.path.specs.InnerPushes.{putPoint};
 ghost use Rattle.path.specs.Tests.{shapedOf, countedOf, Bound, withinOf, allWithin, coordinateGood, coordinatesGood, entriesGood, stepGood, sizeGood, toleranceGood};
 
 // Where the next point and the next start go.

@@ -1,4 +1,4 @@
--- What an accepted chop_adaptive has been tested for, and what then holds. Assumes nothing.
+-- What an accepted chop_adaptive has been tested for, and what then holds.
 use mathlib.Core.Path.{_≡_, refl, subst⁻¹}
 use mathlib.Core.Bool.{false}
 use mathlib.Core.List.{List}
@@ -17,11 +17,11 @@ use Rattle.path_adaptive.specs.declared.View.{View}
 use Rattle.path_adaptive.specs.declared.Tally.{Tally}
 use Rattle.path_adaptive.specs.declared.Tally.the-variants.{Left, Met}
 use Rattle.path_adaptive.specs.Walk.{viewOf, walksOf, adapted, halvingsOf, Calm}
-use Rattle.path_adaptive.specs.Tally.{spentAll, verdictOf, stoppedOf}
+use Rattle.path_adaptive.specs.Tally.{spentAll, verdictBy, stoppedOf}
 use Rattle.path_adaptive.specs.Call.{pointRoom, adaptiveVerdict}
 use Rattle.path_adaptive.proofs.Tallies.{all-fine, points-and-halvings}
 
-accepted-runs : (t : Tally) → verdictOf t ≡ Accepted → stoppedOf t ≡ false
+accepted-runs : (t : Tally) → verdictBy t ≡ Accepted → stoppedOf t ≡ false
 accepted-runs (Left p s) h = refl
 accepted-runs (Met r) h = absurd (let z : _≡_ {A = ℕ} 0 1 = cc in omega arith)
 

@@ -1,4 +1,4 @@
--- Points written equal points read plus halvings. Assumes nothing.
+-- Points written equal points read plus halvings.
 use mathlib.Core.Path.{_≡_, ap, _∙_}
 use mathlib.Core.Bool.{true}
 use mathlib.Core.List.{List, _∷_}

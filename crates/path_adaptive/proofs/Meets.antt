@@ -1,4 +1,4 @@
--- Laws of what the measuring walk hands on. Assumes nothing.
+-- Laws of what the measuring walk hands on.
 use mathlib.Core.Path.{_≡_, refl, sym, ap, _∙_}
 use mathlib.Core.Bool.{Bool, true, false, cond}
 use Prim.Native.Nat.{ℕ, _-_, _≤_, _<_}

@@ -1,4 +1,4 @@
--- Laws of what a walk meets first. Assumes nothing.
+-- Laws of what a walk meets first.
 use mathlib.Core.Path.{_≡_, refl, sym, ap, subst⁻¹, _∙_}
 use mathlib.Core.Bool.{Bool, true, false, cond, true≢false}
 use mathlib.Core.List.{List, [], _∷_, _++_, append-nil, map}
@@ -18,7 +18,7 @@ use Rattle.path.proofs.Pushes.{some-kept}
 use Rattle.path_adaptive.specs.declared.View.{View}
 use Rattle.path_adaptive.specs.declared.Tally.{Tally}
 use Rattle.path_adaptive.specs.declared.Tally.the-variants.{Left, Met}
-use Rattle.path_adaptive.specs.Walk.{Walk, none, one, stuck, join, halved, strokeOf, adapted, halvingsOf, walkFrom, walksOf, shownOf, Calm}
+use Rattle.path_adaptive.specs.Walk.{Walk, none, one, stuck, join, halved, strokeWalked, adapted, halvingsOf, walkFrom, walksOf, shownOf, Calm}
 use Rattle.path_adaptive.specs.Tally.{spent, pointed, begun, spentStroke, spentAll, stoppedOf}
 use Rattle.path_adaptive.specs.InnerMeasure.{pointsOf}
 use Rattle.path_adaptive.proofs.Walks.{stroke-count}
@@ -185,13 +185,13 @@ stop-not : {A : Type 0} (q : Refusal) (ws : List Walk) → stoppedOf (spentAll (
 stop-not q ws h = absurd (true≢false (sym (ap stoppedOf (met-all q ws)) ∙ h))
 
 -- a walk that is not stopped came to every end, with room for all
-pub all-fine : (view : View) (ss : List (List Vector)) (p s : ℕ) → stoppedOf (spentAll (Left p s) (map (strokeOf view) ss)) ≡ false → Fine p s (map (strokeOf view) ss)
-unfolding spentAll spentStroke spent strokeOf joined nonEmpty Calm
+pub all-fine : (view : View) (ss : List (List Vector)) (p s : ℕ) → stoppedOf (spentAll (Left p s) (map (strokeWalked view) ss)) ≡ false → Fine p s (map (strokeWalked view) ss)
+unfolding spentAll spentStroke spent strokeWalked joined nonEmpty Calm
 all-fine view [] p s h = record { calm = tt; few = omega arith; few-starts = omega arith }
-all-fine view ([] ∷ ss) p s h = fine-empty p s (map (strokeOf view) ss) (all-fine view ss p s h)
+all-fine view ([] ∷ ss) p s h = fine-empty p s (map (strokeWalked view) ss) (all-fine view ss p s h)
 all-fine view ((v ∷ vs) ∷ ss) p s h =
-    let w = strokeOf view (v ∷ vs) in
-    let ws = map (strokeOf view) ss in
+    let w = strokeWalked view (v ∷ vs) in
+    let ws = map (strokeWalked view) ss in
     let z = first-some v (walkFrom view (shownOf view v) vs) w refl in
     let k : stoppedOf (spentAll (spent (begun (Left p s)) w) ws) ≡ false = ap (λ (t : Tally). stoppedOf (spentAll t ws)) (sym (spent-some (Left p s) w z)) ∙ h in
     begun-cases p s (λ t. stoppedOf (spentAll (spent t w) ws) ≡ false → Fine p s (w ∷ ws))
@@ -203,27 +203,27 @@ all-fine view ((v ∷ vs) ∷ ss) p s h =
 -- ---- points and halvings of all strokes
 
 -- points written equal points read plus halvings
-pub points-and-halvings : (view : View) (ss : List (List Vector)) → Calm (map (strokeOf view) ss)
-    → length (joined (adapted (map (strokeOf view) ss))) ≡ length (joined ss) + halvingsOf (map (strokeOf view) ss)
+pub points-and-halvings : (view : View) (ss : List (List Vector)) → Calm (map (strokeWalked view) ss)
+    → length (joined (adapted (map (strokeWalked view) ss))) ≡ length (joined ss) + halvingsOf (map (strokeWalked view) ss)
 unfolding joined halvingsOf Calm
 points-and-halvings view [] h = refl
 points-and-halvings view (s ∷ ss) h =
     let a = stroke-count view s (h .0) in
     let b = points-and-halvings view ss (h .1) in
     omega
-    (arith, length-append (strokeOf view s .points) (joined (adapted (map (strokeOf view) ss))), length-append s (joined ss))
+    (arith, length-append (strokeWalked view s .points) (joined (adapted (map (strokeWalked view) ss))), length-append s (joined ss))
 
 -- ---- the strokes from the i-th on
 
 module _ (view : View) (ps : List Float) (ss : List ℕ) (i : ℕ) where
   pub walks-more : (e : ℕ) → i < length ss → e ≡ getD ss (i + 1) (length ps / 3)
-      → walksOf view ps (drop i ss) ≡ strokeOf view (gather (pointAt ps) (getD ss i 0) (e - getD ss i 0)) ∷ walksOf view ps (drop (i + 1) ss)
+      → walksOf view ps (drop i ss) ≡ strokeWalked view (gather (pointAt ps) (getD ss i 0) (e - getD ss i 0)) ∷ walksOf view ps (drop (i + 1) ss)
   unfolding walksOf
-  walks-more = strokes-more (strokeOf view) (pointAt ps) (length ps / 3) ss i
+  walks-more = strokes-more (strokeWalked view) (pointAt ps) (length ps / 3) ss i
 
   pub walks-none : length ss ≤ i → walksOf view ps (drop i ss) ≡ []
   unfolding walksOf
-  walks-none = strokes-none (strokeOf view) (pointAt ps) (length ps / 3) ss i
+  walks-none = strokes-none (strokeWalked view) (pointAt ps) (length ps / 3) ss i
 
 module _ {w : Walk} {ws all : List Walk} (e : all ≡ w ∷ ws) where
   pub more-points : adapted all ≡ w .points ∷ adapted ws

@@ -1,4 +1,4 @@
--- Laws of the walk. Assumes nothing.
+-- Laws of the walk.
 use mathlib.Core.Path.{_≡_, refl, sym, ap, _∙_}
 use mathlib.Core.Bool.{Bool, true, false, cond, true≢false}
 use mathlib.Core.List.{List, [], _∷_, _++_}
@@ -10,7 +10,7 @@ use Rattle.path.specs.Strokes.{gather}
 use Rattle.path.proofs.Gathers.{gather-more, gather-none}
 use Rattle.path_adaptive.specs.declared.View.{View}
 use Rattle.path_adaptive.specs.declared.Shown.{Shown}
-use Rattle.path_adaptive.specs.Walk.{shownOf, middleOf, endsOf, Walk, none, one, stuck, join, halved, walk, walkFrom, strokeOf}
+use Rattle.path_adaptive.specs.Walk.{shownOf, middleOf, endsOf, Walk, none, one, stuck, join, halved, walk, walkFrom, strokeWalked}
 
 -- ---- the walk where it ends, at the last depth, and at a halving
 
@@ -78,13 +78,13 @@ module _ (view : View) (at : ℕ → Vector) (i e : ℕ) where
   unfolding walkFrom
   from-none p h = rw (gather-none at i e h)
 
-  pub stroke-none : e ≤ i → strokeOf view (gather at i (e - i)) ≡ none
-  unfolding strokeOf
+  pub stroke-none : e ≤ i → strokeWalked view (gather at i (e - i)) ≡ none
+  unfolding strokeWalked
   stroke-none h = rw (gather-none at i e h)
 
   pub stroke-some : (v : Vector) (p : Shown) → i < e → v ≡ at i → p ≡ shownOf view v
-      → strokeOf view (gather at i (e - i)) ≡ join (one v) (walkFrom view p (gather at (i + 1) (e - (i + 1))))
-  unfolding strokeOf
+      → strokeWalked view (gather at i (e - i)) ≡ join (one v) (walkFrom view p (gather at (i + 1) (e - (i + 1))))
+  unfolding strokeWalked
   stroke-some v p h f g = rw (gather-more at i e h, g, f)
 
 -- ---- points and halvings
@@ -122,8 +122,8 @@ from-count view a (v ∷ vs) h =
     let y = from-count view (shownOf view v) vs (b .calm-after) in
     omega (arith, b .length-is, b .halvings-are)
 
-pub stroke-count : (view : View) (s : List Vector) → strokeOf view s .deep ≡ false → length (strokeOf view s .points) ≡ length s + strokeOf view s .halvings
-unfolding strokeOf
+pub stroke-count : (view : View) (s : List Vector) → strokeWalked view s .deep ≡ false → length (strokeWalked view s .points) ≡ length s + strokeWalked view s .halvings
+unfolding strokeWalked
 stroke-count view [] h = refl
 stroke-count view (v ∷ vs) h =
     let b = join-both (one v) (walkFrom view (shownOf view v) vs) _ refl h in

@@ -17,7 +17,7 @@ use Rattle.path_adaptive.specs.declared.Adapted.{Adapted}
 use Rattle.path_adaptive.specs.declared.Adapted.the-variants as A
 use Rattle.path_adaptive.specs.declared.Tally.the-variants as T
 use Rattle.path_adaptive.specs.Walk.{viewOf, walksOf, adapted, halvingsOf}
-use Rattle.path_adaptive.specs.Tally.{spentAll, verdictOf}
+use Rattle.path_adaptive.specs.Tally.{spentAll, verdictBy}
 
 -- the answer's number and values
 abbrev pub said : Adapted → Said ℕ
@@ -42,7 +42,7 @@ adaptiveVerdict ps ss m width height step tolerance room startRoom =
     (unless (countedOf (length ps / 3) (length ss)) Count
     (unless (coordinatesGood ps) Number
     (unless (numbersGood m width height step tolerance) Number
-    (verdictOf (spentAll (T.Left (pointRoom room) startRoom) (walksOf (viewOf m width height step tolerance) ps ss))))))
+    (verdictBy (spentAll (T.Left (pointRoom room) startRoom) (walksOf (viewOf m width height step tolerance) ps ss))))))
 
 unfoldable pub adaptiveLeft : List Float → List ℕ → Matrix → Float → Float → Float → Float → List Float → List ℕ → Outcome Lent
 adaptiveLeft ps ss m width height step tolerance op os =

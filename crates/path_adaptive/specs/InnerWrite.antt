@@ -6,7 +6,7 @@ use Prim.Native.Nat.{_+_, _≤_}
 use lib.ListN.{length}
 use lib.Ieee.{Float}
 use Rattle.refusal.specs.Limits.{mostPoints}
-use Rattle.path.specs.Laid.{putPoints, pen, inked}
+use Rattle.path.specs.InnerPushes.{putPoints, course, advanced}
 use Rattle.path_adaptive.specs.declared.write.Mark.{Mark}
 use Rattle.path_adaptive.specs.Walk.{Walk}
 
@@ -18,5 +18,5 @@ pub record Fits (w : Walk) (m : Mark) : Type 0 where
 
 -- a walk was written into the list a from the mark m on: its points lie there in b, its halvings are counted, and the next mark is n
 pub record Inks (w : Walk) (a : List Float) (m : Mark) (b : List Float) (n : Mark) : Type 0 where
-  pub ink : pen b (n .points) ≡ inked putPoints (pen a (m .points)) (w .points)
+  pub ink : course b (n .points) ≡ advanced putPoints (course a (m .points)) (w .points)
   pub count : n .halvings ≡ m .halvings + w .halvings

@@ -34,9 +34,9 @@ unfoldable pub spentAll : Tally → List Walk → Tally
 spentAll t [] = t
 spentAll t (w ∷ ws) = spentAll (spentStroke t w) ws
 
-abbrev pub verdictOf : Tally → Verdict
-verdictOf (Left points starts) = Accepted
-verdictOf (Met r) = Refused r
+abbrev pub verdictBy : Tally → Verdict
+verdictBy (Left points starts) = Accepted
+verdictBy (Met r) = Refused r
 
 abbrev pub stoppedOf : Tally → Bool
 stoppedOf (Left points starts) = false

@@ -79,13 +79,13 @@ walkFrom view a [] = none
 walkFrom view a (v ∷ vs) = join (walk 64 view a (shownOf view v)) (walkFrom view (shownOf view v) vs)
 
 -- a stroke: its first point, then its spans; one of one point stays
-unfoldable pub strokeOf : View → List Vector → Walk
-strokeOf view [] = none
-strokeOf view (v ∷ vs) = join (one v) (walkFrom view (shownOf view v) vs)
+unfoldable pub strokeWalked : View → List Vector → Walk
+strokeWalked view [] = none
+strokeWalked view (v ∷ vs) = join (one v) (walkFrom view (shownOf view v) vs)
 
 -- every stroke of the list
 unfoldable pub walksOf : View → List Float → List ℕ → List Walk
-walksOf view ps ss = map (strokeOf view) (strokesOf (pointAt ps) (length ps / 3) ss)
+walksOf view ps ss = map (strokeWalked view) (strokesOf (pointAt ps) (length ps / 3) ss)
 
 abbrev pub adapted : List Walk → List (List Vector)
 adapted ws = map (λ (w : Walk). w .points) ws

@@ -22,7 +22,7 @@ use vector::matrix::Matrix;
 ghost use mathlib.Core.Path.{_≡_};
 ghost use Rattle.path.specs.Call.{left};
 ghost use Rattle.path.specs.Tests.{entriesGood};
-ghost use Rattle.path_adaptive.specs.Tally.{verdictOf};
+ghost use Rattle.path_adaptive.specs.Tally.{verdictBy};
 ghost use Rattle.path_adaptive.specs.Call.{said, entriesOf, numbersGood, pointRoom, adaptiveVerdict, adaptiveLeft};
 
 // What chop_adaptive wrote and how many halvings it made, or why it was refused.
@@ -116,7 +116,7 @@ fn point_room(room: usize) -> usize
 
 // A tally as a verdict.
 fn verdict_of(t: Tally) -> Verdict
-    ensures { λ r. ⌜ r ≡ verdictOf t ⌝ }
+    ensures { λ r. ⌜ r ≡ verdictBy t ⌝ }
 {
     match t {
         Tally::Left(_, _) => Verdict::Accepted,

@@ -15,7 +15,7 @@ ghost use mathlib.Core.Bool.{false};
 ghost use Prim.Native.Nat.{_-_, _≤_};
 ghost use Rattle.refusal.specs.Limits.{mostPoints};
 ghost use Rattle.path.specs.Strokes.{pointAt, gather};
-ghost use Rattle.path_adaptive.specs.Walk.{endsOf, walk, walkFrom, strokeOf, walksOf};
+ghost use Rattle.path_adaptive.specs.Walk.{endsOf, walk, walkFrom, strokeWalked, walksOf};
 ghost use Rattle.path_adaptive.specs.Tally.{pointed, begun, spentStroke, spentAll};
 ghost use Rattle.path_adaptive.specs.InnerMeasure.{tallyOf, pointsOf, Takes, Meets};
 
@@ -135,7 +135,7 @@ fn measure_spans(view: View, points: &[f64], i: usize, e: usize, first: Shown, l
 // What a stroke from place a up to e meets: its start with its first point, then its spans.
 fn measure_stroke(view: View, points: &[f64], a: usize, e: usize, t: Tally) -> Tally
     requires { ⌜ pointsOf t ≤ mostPoints ⌝ }
-    ensures { λ r. ⌜ r ≡ spentStroke t (strokeOf view (gather (pointAt (now (points .entry))) a (e - a))) ⌝ }
+    ensures { λ r. ⌜ r ≡ spentStroke t (strokeWalked view (gather (pointAt (now (points .entry))) a (e - a))) ⌝ }
 {
     if e <= a {
         return t;

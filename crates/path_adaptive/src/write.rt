@@ -17,8 +17,9 @@ ghost use Prim.Native.Nat.{_+_, _-_, _≤_, _<_};
 ghost use lib.ListN.{length};
 ghost use Rattle.refusal.specs.Limits.{mostPoints};
 ghost use Rattle.path.specs.Strokes.{pointAt, gather};
-ghost use Rattle.path.specs.Laid.{putPoints, out, push, pushAll, joined};
-ghost use Rattle.path_adaptive.specs.Walk.{endsOf, one, walk, walkFrom, strokeOf, walksOf, adapted, halvingsOf, Calm};
+ghost use Rattle.path.specs.Laid.{joined};
+ghost use Rattle.path.specs.InnerPushes.{putPoints, out, push, pushAll};
+ghost use Rattle.path_adaptive.specs.Walk.{endsOf, one, walk, walkFrom, strokeWalked, walksOf, adapted, halvingsOf, Calm};
 ghost use Rattle.path_adaptive.specs.InnerWrite.{Fits, Inks};
 
 // Where the next point goes, and how many halvings were made so far.
@@ -107,8 +108,8 @@ fn write_spans(
 
 // Writes a stroke that is not empty.
 fn write_adapted(view: View, points: &[f64], a: usize, e: usize, out: &mut [f64], at: Mark) -> Mark
-    requires { ⌜ (a < e) × Fits (strokeOf view (gather (pointAt (now points)) a (e - a))) at ⌝ }
-    ensures { λ r. ⌜ Inks (strokeOf view (gather (pointAt (now (points .entry))) a (e - a))) (now (out .entry)) at (now (out .exit)) r ⌝ }
+    requires { ⌜ (a < e) × Fits (strokeWalked view (gather (pointAt (now points)) a (e - a))) at ⌝ }
+    ensures { λ r. ⌜ Inks (strokeWalked view (gather (pointAt (now (points .entry))) a (e - a))) (now (out .entry)) at (now (out .exit)) r ⌝ }
 {
     let v = point_at(points, a);
     let next = collector(out, at, v);
@@ -125,10 +126,10 @@ fn write_stroke(
     out_starts: &mut [u32],
     w: Made,
 ) -> Made
-    requires { ⌜ Fits (strokeOf view (gather (pointAt (now points)) a (e - a))) (record { points = w .place .points; halvings = w .halvings }) × (w .place .starts ≤ mostPoints) ⌝ }
+    requires { ⌜ Fits (strokeWalked view (gather (pointAt (now points)) a (e - a))) (record { points = w .place .points; halvings = w .halvings }) × (w .place .starts ≤ mostPoints) ⌝ }
     ensures { λ r. ⌜ (out (now («out_points» .exit)) (now («out_starts» .exit)) (r .place)
-        ≡ push putPoints (out (now («out_points» .entry)) (now («out_starts» .entry)) (w .place)) (strokeOf view (gather (pointAt (now (points .entry))) a (e - a)) .points))
-        × (r .halvings ≡ w .halvings + strokeOf view (gather (pointAt (now (points .entry))) a (e - a)) .halvings) ⌝ }
+        ≡ push putPoints (out (now («out_points» .entry)) (now («out_starts» .entry)) (w .place)) (strokeWalked view (gather (pointAt (now (points .entry))) a (e - a)) .points))
+        × (r .halvings ≡ w .halvings + strokeWalked view (gather (pointAt (now (points .entry))) a (e - a)) .halvings) ⌝ }
 {
     if e <= a {
         return w;

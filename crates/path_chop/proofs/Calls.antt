@@ -1,4 +1,4 @@
--- What an accepted chop has been tested for. Assumes nothing.
+-- What an accepted chop has been tested for.
 use mathlib.Core.Path.{_≡_}
 use mathlib.Core.Bool.{true, _&&_}
 use mathlib.Core.List.{List}

@@ -1,4 +1,4 @@
--- Laws of chopping, and of the points written by it. Assumes nothing.
+-- Laws of chopping, and of the points written by it.
 use mathlib.Core.Path.{_≡_, refl, sym, ap, subst, _∙_}
 use mathlib.Core.Bool.{Bool, true, false, cond}
 use mathlib.Core.Logic.{_⊎_, inl, inr, ⊎-elim}
@@ -15,7 +15,7 @@ use Rattle.vector.specs.Vectors.{subOf, lengthSquaredOf}
 use Rattle.vector.specs.Lengths.{orNan, lengthOf}
 use Rattle.vector.proofs.Order.{lt-one-way}
 use Rattle.path.specs.Strokes.{pointAt, gather}
-use Rattle.path.specs.Laid.{putPoint, putPoints, Pen, pen, inked}
+use Rattle.path.specs.InnerPushes.{putPoint, putPoints, Course, course, advanced}
 use Rattle.path.proofs.Gathers.{gather-more, gather-none, length-gather, strokes-more, strokes-none}
 use Rattle.path.proofs.Pushes.{ink-at, ink-none, ink-append}
 use Rattle.path.proofs.Points.{points-lie, ink-more}
@@ -63,20 +63,20 @@ steps-within so-far l step h =
 -- the loop that writes them
 module _ (f : Float → Vector) (n k : ℕ) (l step d : Float) (b : List Float) (o : ℕ) where
   pub steps-turn : n < k → lt d l ≡ true → (w : Vector) → w ≡ f d → {q : List Float} → q ≡ putPoint b o w
-      → inked putPoints (pen q (o + 1)) (map f (stepsOf (k - (n + 1)) l step (add binary64 d step))) ≡ inked putPoints (pen b o) (map f (stepsOf (k - n) l step d))
+      → advanced putPoints (course q (o + 1)) (map f (stepsOf (k - (n + 1)) l step (add binary64 d step))) ≡ advanced putPoints (course b o) (map f (stepsOf (k - n) l step d))
   steps-turn h t w e g = rw (g, e, steps-more n k l step d h t) (ink-more b o (f d) (map f (stepsOf (k - (n + 1)) l step (add binary64 d step))))
 
-  pub steps-room : n < k → lt d l ≡ true → (q : Pen Float) (ds : List Float) → inked putPoints (pen b o) (map f (stepsOf (k - n) l step d)) ≡ inked putPoints q (map f ds)
+  pub steps-room : n < k → lt d l ≡ true → (q : Course Float) (ds : List Float) → advanced putPoints (course b o) (map f (stepsOf (k - n) l step d)) ≡ advanced putPoints q (map f ds)
       → o + 1 ≤ q .at + length ds
   steps-room h t q ds e =
       omega
-      (arith, ink-at putPoints (pen b o) q _ _ e, ap length (steps-more n k l step d h t), length-map (stepsOf (k - n) l step d) f, length-map ds f)
+      (arith, ink-at putPoints (course b o) q _ _ e, ap length (steps-more n k l step d h t), length-map (stepsOf (k - n) l step d) f, length-map ds f)
 
-  pub steps-halt : lt d l ≡ false → inked putPoints (pen b o) (map f (stepsOf (k - n) l step d)) ≡ pen b o
-  steps-halt t = rw (steps-stop n k l step d t) (ink-none points-lie (pen b o))
+  pub steps-halt : lt d l ≡ false → advanced putPoints (course b o) (map f (stepsOf (k - n) l step d)) ≡ course b o
+  steps-halt t = rw (steps-stop n k l step d t) (ink-none points-lie (course b o))
 
-  pub steps-end : k ≤ n → inked putPoints (pen b o) (map f (stepsOf (k - n) l step d)) ≡ pen b o
-  steps-end h = rw (steps-none n k l step d h) (ink-none points-lie (pen b o))
+  pub steps-end : k ≤ n → advanced putPoints (course b o) (map f (stepsOf (k - n) l step d)) ≡ course b o
+  steps-end h = rw (steps-none n k l step d h) (ink-none points-lie (course b o))
 
 -- ---- a length, or the step where no step lies within it
 
@@ -125,19 +125,19 @@ module _ (step : Float) (a b : Vector) (v : Vector) (l : Float) (ev : v ≡ subO
       let ds = stepsOf tooMany l step step in
       ap length span-is ∙ omega (arith, length-append (map (along a v l) ds) (b ∷ []), length-map ds (along a v l))
 
-  pub span-at : (p : Pen Float) (q : List Float) (o : ℕ) → pen q o ≡ inked putPoints p (map (along a v l) (stepsOf tooMany l step step))
+  pub span-at : (p : Course Float) (q : List Float) (o : ℕ) → course q o ≡ advanced putPoints p (map (along a v l) (stepsOf tooMany l step step))
       → o + 1 ≡ p .at + length (span tooMany step a b)
-  unfolding inked
+  unfolding advanced
   span-at p q o e =
-      let n : o ≡ p .at + length (map (along a v l) (stepsOf tooMany l step step)) = ap (λ (x : Pen Float). x .at) e in
+      let n : o ≡ p .at + length (map (along a v l) (stepsOf tooMany l step step)) = ap (λ (x : Course Float). x .at) e in
       omega (arith, span-length, length-map (stepsOf tooMany l step step) (along a v l))
 
-  pub span-ink : (p : Pen Float) (q : List Float) (o : ℕ) → pen q o ≡ inked putPoints p (map (along a v l) (stepsOf tooMany l step step))
-      → {q′ : List Float} → q′ ≡ putPoint q o b → pen q′ (o + 1) ≡ inked putPoints p (span tooMany step a b)
+  pub span-ink : (p : Course Float) (q : List Float) (o : ℕ) → course q o ≡ advanced putPoints p (map (along a v l) (stepsOf tooMany l step step))
+      → {q′ : List Float} → q′ ≡ putPoint q o b → course q′ (o + 1) ≡ advanced putPoints p (span tooMany step a b)
   span-ink p q o e g =
       let ds = map (along a v l) (stepsOf tooMany l step step) in
       rw (g, span-is)
-      (sym (ink-none points-lie (pen (putPoint q o b) (o + 1))) ∙ ink-more q o b [] ∙ ap (λ (x : Pen Float). inked putPoints x (b ∷ [])) e ∙ ink-append points-lie p ds (b ∷ []))
+      (sym (ink-none points-lie (course (putPoint q o b) (o + 1))) ∙ ink-more q o b [] ∙ ap (λ (x : Course Float). advanced putPoints x (b ∷ [])) e ∙ ink-append points-lie p ds (b ∷ []))
 
 -- by its length
 pub span-count : (step : Float) (a b v : Vector) (l : Float) → v ≡ subOf b a → l ≡ lengthOf v → length (span tooMany step a b) ≡ length (stepsOf tooMany l step step) + 1
@@ -155,15 +155,15 @@ module _ (step : Float) (at : ℕ → Vector) (i e : ℕ) (p : Vector) where
   unfolding spans
   spans-none h = rw (gather-none at i e h)
 
-  pub spans-turn : i < e → (q : Vector) → q ≡ at i → (x y : Pen Float) → y ≡ inked putPoints x (span tooMany step p q)
-      → inked putPoints y (spans tooMany step q (gather at (i + 1) (e - (i + 1)))) ≡ inked putPoints x (spans tooMany step p (gather at i (e - i)))
+  pub spans-turn : i < e → (q : Vector) → q ≡ at i → (x y : Course Float) → y ≡ advanced putPoints x (span tooMany step p q)
+      → advanced putPoints y (spans tooMany step q (gather at (i + 1) (e - (i + 1)))) ≡ advanced putPoints x (spans tooMany step p (gather at i (e - i)))
   spans-turn h q f x y g = rw (g, spans-more h q f) (ink-append points-lie x (span tooMany step p q) (spans tooMany step q (gather at (i + 1) (e - (i + 1)))))
 
-  pub spans-end : e ≤ i → (x : Pen Float) → inked putPoints x (spans tooMany step p (gather at i (e - i))) ≡ x
+  pub spans-end : e ≤ i → (x : Course Float) → advanced putPoints x (spans tooMany step p (gather at i (e - i))) ≡ x
   spans-end h x = rw (spans-none h) (ink-none points-lie x)
 
   -- the next span does not pass what all come to
-  pub spans-room : i < e → (q : Vector) → q ≡ at i → (x y : Pen Float) (vs : List Vector) → inked putPoints x (spans tooMany step p (gather at i (e - i))) ≡ inked putPoints y vs
+  pub spans-room : i < e → (q : Vector) → q ≡ at i → (x y : Course Float) (vs : List Vector) → advanced putPoints x (spans tooMany step p (gather at i (e - i))) ≡ advanced putPoints y vs
       → x .at + length (span tooMany step p q) ≤ y .at + length vs
   spans-room h q f x y vs g =
       omega (
@@ -195,8 +195,8 @@ module _ (step : Float) (at : ℕ → Vector) (a e : ℕ) where
   pub stroke-some : a + 2 ≤ e → 0 < length (chopped tooMany step (gather at a (e - a)))
   stroke-some h = omega (arith, chopped-length h (at a) refl)
 
-  pub chopped-ink : a + 2 ≤ e → (p : Vector) → p ≡ at a → (b q : List Float) (o : ℕ) (y : Pen Float) → q ≡ putPoint b o p
-      → y ≡ inked putPoints (pen q (o + 1)) (spans tooMany step p (gather at (a + 1) (e - (a + 1)))) → y ≡ inked putPoints (pen b o) (chopped tooMany step (gather at a (e - a)))
+  pub chopped-ink : a + 2 ≤ e → (p : Vector) → p ≡ at a → (b q : List Float) (o : ℕ) (y : Course Float) → q ≡ putPoint b o p
+      → y ≡ advanced putPoints (course q (o + 1)) (spans tooMany step p (gather at (a + 1) (e - (a + 1)))) → y ≡ advanced putPoints (course b o) (chopped tooMany step (gather at a (e - a)))
   chopped-ink h p f b q o y g k = k ∙ rw (g, chopped-long h p f) (ink-more b o p (spans tooMany step p (gather at (a + 1) (e - (a + 1)))))
 
 -- ---- the strokes from the i-th on

@@ -1,4 +1,4 @@
--- Laws of the counts before a chop. Assumes nothing.
+-- Laws of the counts before a chop.
 use mathlib.Core.Path.{_≡_, sym, ap, _∙_}
 use mathlib.Core.Logic.{⊎-elim}
 use mathlib.Core.List.{List, _∷_}

@@ -1,4 +1,4 @@
--- An accepted chop was never cut off: with more steps a span allowed, the strokes are the same. Assumes nothing.
+-- An accepted chop was never cut off: with more steps a span allowed, the strokes are the same.
 use mathlib.Core.Path.{_≡_, refl, ap, _∙_}
 use mathlib.Core.Logic.{⊎-elim}
 use mathlib.Core.List.{List, [], _∷_, _++_, map}

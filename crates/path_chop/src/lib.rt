@@ -26,7 +26,8 @@ ghost use Rattle.vector.specs.Root.{rootOf};
 ghost use Rattle.vector.specs.Lengths.{orNan, lengthOf};
 ghost use Rattle.vector.specs.Vectors.{subOf};
 ghost use Rattle.path.specs.Strokes.{pointAt, gather, strokesOf};
-ghost use Rattle.path.specs.Laid.{putPoints, pen, inked, out, push, pushAll, joined, nonEmpty};
+ghost use Rattle.path.specs.Laid.{joined, nonEmpty};
+ghost use Rattle.path.specs.InnerPushes.{putPoints, course, advanced, out, push, pushAll};
 ghost use Rattle.path.specs.Call.{left};
 ghost use Rattle.path_chop.specs.Chop.{tooMany, along, stepsOf, cut, span, spans, chopped, choppedOf};
 ghost use Rattle.path_chop.specs.InnerCounts.{reachOf, keptOf, capped};
@@ -61,7 +62,7 @@ fn count_steps(l: f64, step: f64, most: usize) -> usize
 // Writes the points within a span of length l along v from a.
 fn write_steps(a: Vector, v: Vector, l: f64, step: f64, out: &mut [f64], at: usize) -> usize
     requires { ⌜ at + length (stepsOf tooMany l step step) ≤ mostPoints ⌝ }
-    ensures { λ r. ⌜ pen (now (out .exit)) r ≡ inked putPoints (pen (now (out .entry)) at) (map (along a v l) (stepsOf tooMany l step step)) ⌝ }
+    ensures { λ r. ⌜ course (now (out .exit)) r ≡ advanced putPoints (course (now (out .entry)) at) (map (along a v l) (stepsOf tooMany l step step)) ⌝ }
 {
     let mut n = 0;
     let mut o = at;
@@ -100,7 +101,7 @@ fn write_span(
     at: usize,
 ) -> usize
     requires { ⌜ (v ≡ subOf b a) × (l ≡ reachOf step (lengthOf v)) × (at + length (span tooMany step a b) ≤ mostPoints) ⌝ }
-    ensures { λ r. ⌜ pen (now (out .exit)) r ≡ inked putPoints (pen (now (out .entry)) at) (span tooMany step a b) ⌝ }
+    ensures { λ r. ⌜ course (now (out .exit)) r ≡ advanced putPoints (course (now (out .entry)) at) (span tooMany step a b) ⌝ }
 {
     let o = write_steps(a, v, l, step, out, at);
     put_point(out, o, b);
@@ -119,7 +120,7 @@ fn write_spans(
     at: usize,
 ) -> usize
     requires { ⌜ at + length (spans tooMany step first (gather (pointAt (now points)) i (e - i))) ≤ mostPoints ⌝ }
-    ensures { λ r. ⌜ pen (now (out .exit)) r ≡ inked putPoints (pen (now (out .entry)) at) (spans tooMany step first (gather (pointAt (now (points .entry))) i (e - i))) ⌝ }
+    ensures { λ r. ⌜ course (now (out .exit)) r ≡ advanced putPoints (course (now (out .entry)) at) (spans tooMany step first (gather (pointAt (now (points .entry))) i (e - i))) ⌝ }
 {
     let mut j = i;
     let mut o = at;
@@ -154,7 +155,7 @@ fn kept(a: usize, e: usize) -> usize
 // Writes a stroke of two points or more, the points from place a up to e.
 fn write_chopped(points: &[f64], a: usize, e: usize, step: f64, out: &mut [f64], at: usize) -> usize
     requires { ⌜ (a + 2 ≤ e) × (at + length (chopped tooMany step (gather (pointAt (now points)) a (e - a))) ≤ mostPoints) ⌝ }
-    ensures { λ r. ⌜ pen (now (out .exit)) r ≡ inked putPoints (pen (now (out .entry)) at) (chopped tooMany step (gather (pointAt (now (points .entry))) a (e - a))) ⌝ }
+    ensures { λ r. ⌜ course (now (out .exit)) r ≡ advanced putPoints (course (now (out .entry)) at) (chopped tooMany step (gather (pointAt (now (points .entry))) a (e - a))) ⌝ }
 {
     let p = point_at(points, a);
     put_point(out, at, p);

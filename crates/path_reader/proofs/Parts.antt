@@ -1,4 +1,4 @@
--- The parts that are handed out are the strokes of the table. Assumes nothing.
+-- The parts that are handed out are the strokes of the table.
 use mathlib.Core.Path.{_≡_, refl, sym, ap, _∙_}
 use mathlib.Core.Logic.{_⊎_, inl, inr}
 use mathlib.Core.Bool.{true}

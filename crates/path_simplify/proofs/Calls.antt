@@ -1,4 +1,4 @@
--- What an accepted simplify has been tested for, and what then holds. Assumes nothing.
+-- What an accepted simplify has been tested for, and what then holds.
 use mathlib.Core.Path.{_≡_}
 use mathlib.Core.Bool.{true}
 use mathlib.Core.List.{List}

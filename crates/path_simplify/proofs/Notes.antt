@@ -1,4 +1,4 @@
--- Laws of the notes on a stroke: what they say after one more, and after the notes on both parts. Assumes nothing.
+-- Laws of the notes on a stroke: what they say after one more, and after the notes on both parts.
 use mathlib.Core.Path.{_≡_, refl, ap}
 use mathlib.Core.Logic.{⊎-elim}
 use mathlib.Core.Bool.{Bool, true, false}
@@ -14,7 +14,7 @@ use Rattle.vector.specs.declared.Vector.{Vector}
 use Rattle.path_simplify.specs.Simplify.{farthest, splitsAt, Thin, nothing, first, parts, thin}
 use Rattle.path_simplify.specs.InnerSquares.{splitOf}
 use Rattle.path_simplify.specs.InnerNotes.{cleared, measured, noted, count, thinAt, plus}
-use Rattle.path.specs.Laid.{putPoint, putPoints, pen, inked}
+use Rattle.path.specs.InnerPushes.{putPoint, putPoints, course, advanced}
 use Rattle.path.proofs.Tests as tests
 use Rattle.path_simplify.proofs.Thins.{splits-in, thin-split, thin-first, first-measured, parts-measured}
 
@@ -116,8 +116,8 @@ module _ (at : ℕ → Vector) (k : List ℕ) (n i o : ℕ) (b : List Float) whe
   lay-end h = let l : length (take n (drop 2 k)) ≤ i = omega (arith, length-take n (drop 2 k)) in rw (drop-of-length-le (take n (drop 2 k)) l)
 
 module _ (at : ℕ → Vector) (k : List ℕ) (w : Thin) (e : thinAt at k ≡ w) where
-  pub laid-ink : count k ≡ length (w .points) → (b c : List Float) (o : ℕ) → c ≡ putPoints b o (thinAt at k .points) → pen c (o + count k) ≡ inked putPoints (pen b o) (w .points)
-  unfolding inked
+  pub laid-ink : count k ≡ length (w .points) → (b c : List Float) (o : ℕ) → c ≡ putPoints b o (thinAt at k .points) → course c (o + count k) ≡ advanced putPoints (course b o) (w .points)
+  unfolding advanced
   laid-ink n b c o f = rw (f, n, e)
 
   pub laid-measured : getD k 0 0 ≡ w .measured

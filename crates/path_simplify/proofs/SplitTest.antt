@@ -1,5 +1,5 @@
 -- The second test of `splitsAt`, that the farthest lies past lo, changes nothing for a threshold that a call accepts: what is above
--- such a threshold is above 0, and no point at lo is. Assumes nothing.
+-- such a threshold is above 0, and no point at lo is.
 use mathlib.Core.Path.{_≡_, refl, sym, subst}
 use mathlib.Core.Logic.{_⊎_, inl, inr}
 use mathlib.Core.Bool.{Bool, true, false, not, cond, _&&_}

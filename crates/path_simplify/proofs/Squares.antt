@@ -1,4 +1,4 @@
--- Laws of the scan without roots. Assumes nothing.
+-- Laws of the scan without roots.
 use mathlib.Core.Path.{_≡_, refl, sym, ap, _∙_, subst}
 use mathlib.Core.Logic.{_⊎_, inl, inr}
 use mathlib.Core.Bool.{Bool, true, false, not, cond, true≢false}

@@ -1,4 +1,4 @@
--- Laws of leaving points out of one stroke. Assumes nothing.
+-- Laws of leaving points out of one stroke.
 use mathlib.Core.Path.{_≡_, refl, sym, ap, _∙_}
 use mathlib.Core.Bool.{Bool, true, false, cond, _&&_, true≢false}
 use Prim.Native.Nat.{ℕ, zero, suc, _+_, _-_, _*_, _≤_, _<_}

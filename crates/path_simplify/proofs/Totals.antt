@@ -1,4 +1,4 @@
--- Laws of leaving points out of every stroke. Assumes nothing.
+-- Laws of leaving points out of every stroke.
 use mathlib.Core.Path.{_≡_, refl, sym, ap, _∙_, subst}
 use mathlib.Core.Logic.{⊎-elim}
 use mathlib.Core.Bool.{true, _&&_}

@@ -21,7 +21,8 @@ ghost use lib.Dec.{leb};
 ghost use lib.Ieee.{binary64, div, eq, lt};
 ghost use Rattle.refusal.specs.Limits.{mostPoints, mostToSimplify};
 ghost use Rattle.path.specs.Strokes.{pointAt, goodStarts};
-ghost use Rattle.path.specs.Laid.{putPoints, pen, inked, out, push, pushAll, joined};
+ghost use Rattle.path.specs.Laid.{joined};
+ghost use Rattle.path.specs.InnerPushes.{putPoints, course, advanced, out, push, pushAll};
 ghost use Rattle.path.specs.Call.{left};
 ghost use Rattle.path_simplify.specs.Simplify.{fartherOf, farthest, splitsAt, thin, thinned, simplified, distances, simplifiedOf};
 ghost use Rattle.path_simplify.specs.InnerSquares.{splitOf, placeOf};
@@ -312,7 +313,7 @@ fn write_thinned(
 ) -> Kept
     requires { ⌜ (a < e) × (e - a ≤ mostToSimplify) × (e ≤ length (now points) / 3) × (length (now kept) ≡ notesLong)
         × (at + length (thinned threshold (pointAt (now points)) a e .points) ≤ mostPoints) ⌝ }
-    ensures { λ r. ⌜ (pen (now (out .exit)) (r .points) ≡ inked putPoints (pen (now (out .entry)) at) (thinned threshold (pointAt (now (points .entry))) a e .points))
+    ensures { λ r. ⌜ (course (now (out .exit)) (r .points) ≡ advanced putPoints (course (now (out .entry)) at) (thinned threshold (pointAt (now (points .entry))) a e .points))
         × (r .distances ≡ thinned threshold (pointAt (now (points .entry))) a e .measured) × (length (now (kept .exit)) ≡ notesLong) ⌝ }
 {
     keep_stroke(points, a, e, threshold, kept);

@@ -1,5 +1,4 @@
 -- What the call answers and leaves.
--- Assumes nothing.
 use mathlib.Core.Path.{_≡_, refl, sym, ap, _∙_, subst}
 use mathlib.Core.Bool.{true, false}
 use mathlib.Core.List.{List, [], _∷_, _++_, append-assoc, map}
@@ -21,17 +20,17 @@ use Rattle.path_splice.specs.Call.{verdictOf, left, laid}
 use Rattle.order.specs.Regions.{region, put}
 use mathlib.Core.Logic.{⊎-elim}
 use lib.ListN.{List·getD-eq-default, length-map, List·getD-map}
-use Rattle.path_ends.specs.Splice.{splice, isZero, present, valueAt, joinable, links, chainsOf, readFrom, added, readChain}
-use Rattle.path_link.specs.Ends.{fitLive}
-use Rattle.path_ends.specs.Demand.{sum}
-use Rattle.path_link.specs.Walk.{linkIn, inked, inkAll, orderIn, Woven}
+use Rattle.path_splice_rule.specs.Splice.{splice, isZero, present, valueAt, joinable, links, chainsOf, readFrom, added, readChain}
+use Rattle.path_splice_links.specs.Ends.{fitLive}
+use Rattle.path_splice_rule.specs.Demand.{sum}
+use Rattle.path_splice_links.specs.Walk.{linkIn, doubledEnds, allDoubled, orderIn, Woven}
 use Rattle.order.proofs.Tests.{clash, le-or}
-use Rattle.path_ends.proofs.Ends.{is-zero}
+use Rattle.path_splice_rule.proofs.Ends.{is-zero}
 use Rattle.path_splice.proofs.Joining.{links-are}
-use Rattle.path_ends.proofs.Walking.{All, none, more}
-use Rattle.path_ends.proofs.Reading.{Full}
-use Rattle.path_ends.proofs.Spliced.{points-most, strokes-most, strokes-full}
-use Rattle.path_ends.proofs.Numbers.{numbers}
+use Rattle.path_splice_rule.proofs.Walking.{All, none, more}
+use Rattle.path_splice_rule.proofs.Reading.{Full}
+use Rattle.path_splice_rule.proofs.Spliced.{points-most, strokes-most, strokes-full}
+use Rattle.path_splice_rule.proofs.Numbers.{numbers}
 use Rattle.path_splice.proofs.Readings.{mark-none, mark-one}
 use Rattle.refusal.specs.Limits.{mostStrokes, mostPoints}
 
@@ -69,34 +68,34 @@ part-odd ss e =
     let q : (e + e + 1) / 2 ≡ e = omega arith in
     rw (p, q)
 
-text-joined : (ss : List (List ℕ)) (c xs : List ℕ) → textOf ss (inked 0 c ++ xs) ≡ added ss c ++ textOf ss xs
-unfolding textOf inked added
+text-joined : (ss : List (List ℕ)) (c xs : List ℕ) → textOf ss (doubledEnds 0 c ++ xs) ≡ added ss c ++ textOf ss xs
+unfolding textOf doubledEnds added
 text-joined ss [] xs = refl
 text-joined ss (e ∷ c) xs = rw (part-even ss e, text-joined ss c xs) (sym (append-assoc (drop 1 (readFrom ss e)) (added ss c) (textOf ss xs)))
 
-chain-text : (ss : List (List ℕ)) (c xs : List ℕ) → textOf ss (inked 1 c ++ xs) ≡ readChain ss c ++ textOf ss xs
-unfolding textOf inked readChain
+chain-text : (ss : List (List ℕ)) (c xs : List ℕ) → textOf ss (doubledEnds 1 c ++ xs) ≡ readChain ss c ++ textOf ss xs
+unfolding textOf doubledEnds readChain
 chain-text ss [] xs = refl
 chain-text ss (e ∷ c) xs = rw (part-odd ss e, text-joined ss c xs) (sym (append-assoc (readFrom ss e) (added ss c) (textOf ss xs)))
 
-text-all : (ss : List (List ℕ)) (cs : List (List ℕ)) → textOf ss (inkAll cs) ≡ joined (map (readChain ss) cs)
-unfolding textOf inkAll joined
+text-all : (ss : List (List ℕ)) (cs : List (List ℕ)) → textOf ss (allDoubled cs) ≡ joined (map (readChain ss) cs)
+unfolding textOf allDoubled joined
 text-all ss [] = refl
 text-all ss (c ∷ cs) = one c (text-all ss cs)
   where
-    one : (c : List ℕ) → textOf ss (inkAll cs) ≡ joined (map (readChain ss) cs) → textOf ss (inked 1 c ++ inkAll cs) ≡ readChain ss c ++ joined (map (readChain ss) cs)
-    one c h = chain-text ss c (inkAll cs) ∙ ap (λ (z : List ℕ). readChain ss c ++ z) h
+    one : (c : List ℕ) → textOf ss (allDoubled cs) ≡ joined (map (readChain ss) cs) → textOf ss (doubledEnds 1 c ++ allDoubled cs) ≡ readChain ss c ++ joined (map (readChain ss) cs)
+    one c h = chain-text ss c (allDoubled cs) ∙ ap (λ (z : List ℕ). readChain ss c ++ z) h
 
-marks-joined : (ss : List (List ℕ)) (p : ℕ) (c xs : List ℕ) → marksOf ss p (inked 0 c ++ xs) ≡ marksOf ss (p + length (added ss c)) xs
-unfolding marksOf inked added
+marks-joined : (ss : List (List ℕ)) (p : ℕ) (c xs : List ℕ) → marksOf ss p (doubledEnds 0 c ++ xs) ≡ marksOf ss (p + length (added ss c)) xs
+unfolding marksOf doubledEnds added
 marks-joined ss p [] xs = let z : p + 0 ≡ p = omega arith in rw z
 marks-joined ss p (e ∷ c) xs =
     let z : mark p (e + e + 0) ≡ [] = mark-none p (e + e + 0) (omega arith) in
     let y : p + length (drop 1 (readFrom ss e)) + length (added ss c) ≡ p + length (drop 1 (readFrom ss e) ++ added ss c) = omega (arith, length-append (drop 1 (readFrom ss e)) (added ss c)) in
     rw (z, part-even ss e) (marks-joined ss (p + length (drop 1 (readFrom ss e))) c xs ∙ ap (λ (k : ℕ). marksOf ss k xs) y)
 
-marks-chain : (ss : List (List ℕ)) (p e : ℕ) (c xs : List ℕ) → marksOf ss p (inked 1 (e ∷ c) ++ xs) ≡ p ∷ marksOf ss (p + length (readChain ss (e ∷ c))) xs
-unfolding marksOf inked readChain
+marks-chain : (ss : List (List ℕ)) (p e : ℕ) (c xs : List ℕ) → marksOf ss p (doubledEnds 1 (e ∷ c) ++ xs) ≡ p ∷ marksOf ss (p + length (readChain ss (e ∷ c))) xs
+unfolding marksOf doubledEnds readChain
 marks-chain ss p e c xs =
     let z : mark p (e + e + 1) ≡ p ∷ [] = mark-one p (e + e + 1) (omega arith) in
     let y : p + length (readFrom ss e) + length (added ss c) ≡ p + length (readFrom ss e ++ added ss c) = omega (arith, length-append (readFrom ss e) (added ss c)) in
@@ -110,11 +109,11 @@ not-full : (l : List ℕ) → Full l → l ≡ [] → ⊥
 not-full [] f e = elim f [ ]
 not-full (x ∷ l) f e = omega (arith, ap length e)
 
-marks-all : (ss : List (List ℕ)) (p : ℕ) (cs : List (List ℕ)) → All Full (map (readChain ss) cs) → marksOf ss p (inkAll cs) ≡ startsFrom p (map (readChain ss) cs)
-unfolding marksOf inkAll startsFrom
+marks-all : (ss : List (List ℕ)) (p : ℕ) (cs : List (List ℕ)) → All Full (map (readChain ss) cs) → marksOf ss p (allDoubled cs) ≡ startsFrom p (map (readChain ss) cs)
+unfolding marksOf allDoubled startsFrom
 marks-all ss p [] none = refl
 marks-all ss p ([] ∷ cs) (more f F) = absurd (not-full (readChain ss []) f (read-none ss))
-marks-all ss p ((e ∷ c) ∷ cs) (more f F) = marks-chain ss p e c (inkAll cs) ∙ ap (λ (l : List ℕ). p ∷ l) (marks-all ss (p + length (readChain ss (e ∷ c))) cs F)
+marks-all ss p ((e ∷ c) ∷ cs) (more f F) = marks-chain ss p e c (allDoubled cs) ∙ ap (λ (l : List ℕ). p ∷ l) (marks-all ss (p + length (readChain ss (e ∷ c))) cs F)
 
 -- sizes
 joined-size : {A : Type 0} (ss : List (List A)) → length (joined ss) ≡ sum length ss
@@ -150,14 +149,14 @@ module _ (ss : List (List ℕ)) (s s′ : List ℕ) (n r : ℕ) (q : length ss �
   abbrev C : List (List ℕ)
   C = chainsOf (λ (e : ℕ). getD (links (joinable 0 eqb ss) (2 * length ss)) e 0) (length ss) (map present ss)
 
-  order-def : region s′ (2 * n) r ≡ inkAll (chainsOf (linkIn (links (fitLive T Vs) (2 * n))) n T)
+  order-def : region s′ (2 * n) r ≡ allDoubled (chainsOf (linkIn (links (fitLive T Vs) (2 * n))) n T)
   unfolding orderIn
   order-def = H .order
 
-  order-is : region s′ (2 * n) r ≡ inkAll C
+  order-is : region s′ (2 * n) r ≡ allDoubled C
   order-is =
-      order-def ∙ ap (λ (l : List ℕ). inkAll (chainsOf (linkIn l) n T)) links-is ∙ ap (λ (t : List ℕ). inkAll (chainsOf (linkIn (links (joinable 0 eqb ss) (2 * length ss))) n t)) (F .todo)
-      ∙ ap (λ (k : ℕ). inkAll (chainsOf (linkIn (links (joinable 0 eqb ss) (2 * length ss))) k (map present ss))) (sym q)
+      order-def ∙ ap (λ (l : List ℕ). allDoubled (chainsOf (linkIn l) n T)) links-is ∙ ap (λ (t : List ℕ). allDoubled (chainsOf (linkIn (links (joinable 0 eqb ss) (2 * length ss))) n t)) (F .todo)
+      ∙ ap (λ (k : ℕ). allDoubled (chainsOf (linkIn (links (joinable 0 eqb ss) (2 * length ss))) k (map present ss))) (sym q)
 
   splice-is : map (readChain ss) C ≡ splice 0 eqb ss
   unfolding splice

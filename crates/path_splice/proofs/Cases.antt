@@ -1,5 +1,4 @@
 -- The paper's cases, through the call's own definition, by computation.
--- Assumes nothing.
 use mathlib.Core.Path.{_≡_, refl}
 use mathlib.Core.List.{List, [], _∷_, map}
 use Prim.Native.Nat.{ℕ, _*_}
@@ -10,7 +9,7 @@ use Rattle.refusal.specs.Outcome.{Outcome, outcome}
 use Rattle.path.specs.Strokes.{goodFrom, goodStarts, gather, strokesOf}
 use Rattle.path.specs.Laid.{over, joined, startsFrom}
 use Rattle.path.specs.Tests.{countedOf}
-use Rattle.path_ends.specs.Splice.{splice, links, linkFrom, linkEnd, tie, pick, onward, after, run, from, pass, atFree, atLast, chainsOf, lastOf, firstOf, present, endOf, turned, valueAt, joinable, readFrom, added, readChain}
+use Rattle.path_splice_rule.specs.Splice.{splice, links, linkFrom, linkEnd, tie, pick, onward, after, run, from, pass, atFree, atLast, chainsOf, lastOf, firstOf, present, endOf, turned, valueAt, joinable, readFrom, added, readChain}
 use Rattle.path_splice.specs.Call.{verdictOf, Lent, left, laid, spliceLeft}
 
 -- points and starts

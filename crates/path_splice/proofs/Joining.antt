@@ -1,13 +1,12 @@
 -- The links of the definition of splice are those of its values and of what strokes there are.
--- Assumes nothing.
 use mathlib.Core.Path.{_≡_, refl, ap, _∙_}
 use mathlib.Core.Bool.{Bool, true, false, _&&_, not}
 use mathlib.Core.List.{List, []}
 use Prim.Native.Nat.{ℕ, zero, suc, _*_, _/_}
 use lib.Dec.{eqb}
 use lib.ListN.{length, getD, replicate}
-use Rattle.path_ends.specs.Splice.{isZero, pick, linkEnd, linkFrom, links, present, valueAt, joinable}
-use Rattle.path_link.specs.Ends.{fit, fitLive}
+use Rattle.path_splice_rule.specs.Splice.{isZero, pick, linkEnd, linkFrom, links, present, valueAt, joinable}
+use Rattle.path_splice_links.specs.Ends.{fit, fitLive}
 
 module _ (j k : ℕ → ℕ → Bool) (h : (e f : ℕ) → j e f ≡ k e f) where
   pick-same : (ls : List ℕ) (e n : ℕ) → pick j ls e n ≡ pick k ls e n

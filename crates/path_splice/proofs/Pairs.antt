@@ -1,5 +1,4 @@
 -- Strokes of two points each: their table, the values of their ends, and what is left of scratch.
--- Assumes nothing.
 use mathlib.Core.Path.{_≡_, refl, sym, ap, _∙_}
 use mathlib.Core.Bool.{true, false, _&&_}
 use mathlib.Core.Logic.{inl, inr}
@@ -14,13 +13,13 @@ use borrow.Author.Tests.{le-leb, leb-true, eq-eqb}
 use Rattle.order.specs.Regions.{region, Off, Into2}
 use Rattle.order.proofs.Parts.{into2-none, into2-set, into2-size, into2-region, into2-first, into2-second}
 use Rattle.path.specs.Strokes.{goodFrom, goodStarts, gather, strokesOf, numberAt, strokesIn}
-use Rattle.path_ends.specs.Splice.{firstOf, lastOf, endOf, valueAt, present}
+use Rattle.path_splice_rule.specs.Splice.{firstOf, lastOf, endOf, valueAt, present}
 use Rattle.path_splice.proofs.Tables.{fill-turn}
 use Rattle.refusal.specs.Said.{accepted}
 use Rattle.path.specs.Laid.{over}
 use Rattle.path.proofs.Tests.{both}
-use Rattle.path_ends.specs.Splice.{splice}
-use Rattle.path_link.specs.Walk.{Woven}
+use Rattle.path_splice_rule.specs.Splice.{splice}
+use Rattle.path_splice_links.specs.Walk.{Woven}
 use Rattle.path_splice.proofs.Answers.{out-points, out-starts, laid-out, wrote}
 use Rattle.path_splice.specs.Call.{left}
 use Rattle.path_splice.specs.InnerText.{textOf, marksOf, ReadOut, Filled}

@@ -1,5 +1,4 @@
 -- What an order reads: the entries of the code, and the definition's chains.
--- Assumes nothing.
 use mathlib.Core.Path.{_≡_, refl, sym, ap, _∙_}
 use mathlib.Core.Logic.{_≢_}
 use mathlib.Core.List.{List, [], _∷_, _++_, reverse, reverse-append, map}
@@ -13,8 +12,8 @@ use mathlib.Core.Logic.{inr}
 use Rattle.order.specs.Regions.{region, put, Off}
 use Rattle.path.specs.Strokes.{strokesIn}
 use Rattle.path_splice.specs.InnerText.{Spans, part, mark, textOf, marksOf, ReadOut, Filled}
-use Rattle.path_ends.specs.Splice.{turned, readFrom, valueAt, present}
-use Rattle.path_ends.proofs.Ends.{is-zero, not-zero}
+use Rattle.path_splice_rule.specs.Splice.{turned, readFrom, valueAt, present}
+use Rattle.path_splice_rule.proofs.Ends.{is-zero, not-zero}
 use Rattle.order.proofs.Parts.{put-append, length-region, put-lent, region-off, region-put}
 use Rattle.path_splice.proofs.Tables.{region-first, region-last}
 

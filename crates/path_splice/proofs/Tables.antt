@@ -1,5 +1,4 @@
 -- Laws of start tables, of the strokes that they name, and of copying.
--- Assumes nothing.
 use mathlib.Core.Path.{_≡_, refl, sym, ap, _∙_}
 use mathlib.Core.Bool.{Bool, true, false, _&&_}
 use mathlib.Core.Logic.{_≢_}
@@ -20,7 +19,7 @@ use Rattle.path.proofs.Tests.{both}
 use Rattle.path.proofs.Gathers.{gather-drop}
 use Rattle.path.proofs.Again.{strokes-count}
 use Rattle.path_splice.specs.InnerText.{Spans}
-use Rattle.path_ends.specs.Splice.{firstOf, lastOf, endOf, valueAt, present}
+use Rattle.path_splice_rule.specs.Splice.{firstOf, lastOf, endOf, valueAt, present}
 use Rattle.order.proofs.Parts.{length-region, get-region}
 
 -- of a good table: each start is at most the next, or the point count, and that is at most the point count

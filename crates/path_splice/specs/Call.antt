@@ -1,5 +1,4 @@
 -- The call: when it is refused, what it answers, and what it leaves in what it was lent.
--- Assumes nothing.
 use mathlib.Core.Bool.{_&&_}
 use mathlib.Core.List.{List, [], _∷_}
 use Prim.Native.Nat.{ℕ, _*_}
@@ -14,7 +13,7 @@ use Rattle.refusal.specs.Outcome.{Outcome, leaves, outcome}
 use Rattle.path.specs.Strokes.{goodStarts, strokesIn}
 use Rattle.path.specs.Laid.{over, joined, startsFrom}
 use Rattle.path.specs.Tests.{countedOf}
-use Rattle.path_ends.specs.Splice.{splice}
+use Rattle.path_splice_rule.specs.Splice.{splice}
 use Rattle.path_splice.specs.declared.Spliced.{Spliced}
 use Rattle.path_splice.specs.declared.Spliced.the-variants as spliced
 

@@ -1,5 +1,4 @@
 -- The splice of strokes of two points each that lie in scratch already.
--- Assumes nothing.
 use mathlib.Core.Bool.{Bool, _&&_, cond}
 use mathlib.Core.List.{List, [], _∷_}
 use mathlib.Core.Path.{_≡_}
@@ -10,7 +9,7 @@ use Rattle.refusal.specs.Limits.{mostStrokes}
 use Rattle.refusal.specs.Said.{accepted}
 use Rattle.refusal.specs.Outcome.{Outcome}
 use Rattle.path.specs.Laid.{over}
-use Rattle.path_ends.specs.Splice.{splice}
+use Rattle.path_splice_rule.specs.Splice.{splice}
 use Rattle.path_splice.specs.InnerText.{LaidOut}
 use Rattle.path_splice.specs.Call.{Lent, left, laid}
 

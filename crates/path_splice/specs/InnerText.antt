@@ -1,5 +1,4 @@
 -- What is filled into scratch, and what an order of entered strokes reads.
--- Assumes nothing.
 use mathlib.Core.Path.{_≡_}
 use mathlib.Core.Bool.{cond}
 use mathlib.Core.List.{List, [], _∷_, _++_, map}
@@ -8,7 +7,7 @@ use lib.ListN.{length, getD, drop}
 use Rattle.order.specs.Regions.{region, put}
 use Rattle.path.specs.Strokes.{strokesIn}
 use Rattle.path.specs.Laid.{over, joined, startsFrom}
-use Rattle.path_ends.specs.Splice.{isZero, readFrom, valueAt, present}
+use Rattle.path_splice_rule.specs.Splice.{isZero, readFrom, valueAt, present}
 
 -- stroke i lies from place a up to place b
 pub record Spans (ps ss : List ℕ) (i a b : ℕ) : Type 0 where

@@ -4,8 +4,8 @@ use path::Place;
 use path::counted;
 use path::end_of;
 use path::rising;
-use path_ends::Endpoint;
-use path_link::thread;
+use path_splice_links::thread;
+use path_splice_rule::Endpoint;
 use refusal::MOST_STROKES;
 use refusal::Refusal;
 use refusal::Verdict;
@@ -18,7 +18,7 @@ ghost use lib.Dec.{eqb};
 ghost use Rattle.refusal.specs.Said.{accepted};
 ghost use Rattle.order.specs.Regions.{region, put, Into2};
 ghost use Rattle.path.specs.Strokes.{goodStarts, strokesIn};
-ghost use Rattle.path_ends.specs.Splice.{valueAt, present, splice as spliceOf};
+ghost use Rattle.path_splice_rule.specs.Splice.{valueAt, present, splice as spliceOf};
 ghost use Rattle.path_splice.specs.InnerText.{Spans, part, mark, textOf, marksOf, ReadOut, Filled, LaidOut};
 ghost use Rattle.path_splice.specs.InnerPairs.{Paired, Drawn, fits as fitsOf, pairsLeft};
 ghost use Rattle.path_splice.specs.Call.{verdictOf, said, left, spliceLeft};
@@ -234,7 +234,13 @@ fn draw(
 }
 
 // The tests before the call's work: the lowest refusal that applies.
-fn verdict(points: &[u32], starts: &[u32], words: usize, room: usize, start_room: usize) -> Verdict
+fn splice_verdict(
+    points: &[u32],
+    starts: &[u32],
+    words: usize,
+    room: usize,
+    start_room: usize,
+) -> Verdict
     ensures { λ r. ⌜ r ≡ verdictOf (now (points .entry)) (now (starts .entry)) words room «start_room» ⌝ }
 {
     if !rising(starts, points.len()) {
@@ -266,7 +272,7 @@ pub fn splice(
     ensures { λ r. ⌜ left (said r) (now (scratch .exit)) (now («out_points» .exit)) (now («out_starts» .exit))
         ≡ spliceLeft (now (points .entry)) (now (starts .entry)) (now (scratch .entry)) (now («out_points» .entry)) (now («out_starts» .entry)) ⌝ }
 {
-    match verdict(
+    match splice_verdict(
         points,
         starts,
         scratch.len(),

@@ -1,4 +1,4 @@
-// The arithmetic layer for C and Rust, and nothing else. A point is an array of three f64, a matrix one of sixteen, row by row.
+// Every call for C and Rust, and nothing else. A point is an array of three f64, a matrix one of sixteen, row by row.
 // A function that can refuse answers a status, 0 or the refusal's number, and a refusal leaves the place of the value as it was;
 // the others answer the value itself, or write the point to their last parameter.
 use vector::Unit;

@@ -1,4 +1,4 @@
--- What the proofs of the functions share. Assumes nothing.
+-- What the proofs of the functions share.
 use mathlib.Core.Path.{_≡_, refl, sym, ap, _∙_}
 use mathlib.Core.Bool.{Bool, true, false, cond, not, _&&_}
 use mathlib.Core.List.{List}

@@ -1,5 +1,4 @@
 -- A written sheet is a sheet, and what is read from it is what was written. Bytes that are a sheet are the sheet of what is read from them.
--- Assumes nothing.
 use mathlib.Core.Path.{_≡_, refl, sym, ap, _∙_}
 use mathlib.Core.Bool.{true, _&&_}
 use mathlib.Core.List.{List, [], _∷_, _++_, append-nil, append-assoc}

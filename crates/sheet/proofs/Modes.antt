@@ -1,4 +1,4 @@
--- The mode numbers of a sheet, and those of a drawing. Assumes nothing.
+-- The mode numbers of a sheet, and those of a drawing.
 use mathlib.Core.Path.{_≡_, refl, ap}
 use mathlib.Core.Bool.{true, cond}
 use Prim.Native.Nat.{ℕ, zero, suc, _≤_, _<_}

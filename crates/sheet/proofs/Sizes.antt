@@ -1,4 +1,4 @@
--- How long a sheet is, and the limits of its counts. Assumes nothing.
+-- How long a sheet is, and the limits of its counts.
 use mathlib.Core.Path.{_≡_}
 use mathlib.Core.Bool.{true, _&&_}
 use mathlib.Core.List.{List}

@@ -1,4 +1,4 @@
--- Strokes and their starts. Assumes nothing.
+-- Strokes and their starts.
 use mathlib.Core.Path.{_≡_, refl, sym, ap, _∙_}
 use mathlib.Core.Logic.{_⊎_, inl, inr}
 use mathlib.Core.Bool.{true, _&&_}

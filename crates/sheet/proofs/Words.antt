@@ -1,4 +1,4 @@
--- Words and their bytes. Assumes nothing.
+-- Words and their bytes.
 use mathlib.Core.Path.{_≡_, refl, sym}
 use mathlib.Core.List.{List, [], _∷_, _++_}
 use Prim.Native.Nat.{ℕ, suc, _+_, _*_, _/_, _%_, _<_}

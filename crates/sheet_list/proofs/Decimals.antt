@@ -1,4 +1,4 @@
--- What `decimal` writes of a number that fits a word: digits alone, none of them a leading zero, and their value is the number. Assumes nothing.
+-- What `decimal` writes of a number that fits a word: digits alone, none of them a leading zero, and their value is the number.
 use mathlib.Core.Path.{_≡_, refl, sym, ap, subst, _∙_}
 use mathlib.Core.Bool.{Bool, true, false, cond}
 use mathlib.Core.List.{List, [], _∷_}

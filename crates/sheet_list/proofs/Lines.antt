@@ -1,4 +1,4 @@
--- The lines of the strokes, and how long a text is. Assumes nothing.
+-- The lines of the strokes, and how long a text is.
 use mathlib.Core.Path.{_≡_, refl, sym, ap, _∙_}
 use mathlib.Core.Bool.{Bool, true, false, cond}
 use mathlib.Core.List.{List, [], _∷_, _++_, map}
@@ -12,7 +12,8 @@ use Rattle.refusal.specs.Limits.{mostStrokes}
 use Rattle.refusal.specs.declared.Refusal.the-variants.{Count, Sheet}
 use Rattle.refusal.specs.Refusals.{numberOf}
 use Rattle.path.specs.Strokes.{goodFrom, goodStarts, gather, strokesOf, numberAt, strokesIn}
-use Rattle.path.specs.Laid.{joined, Pen, pen, inked}
+use Rattle.path.specs.Laid.{joined}
+use Rattle.path.specs.InnerPushes.{Course, course, advanced}
 use Rattle.path.proofs.Tests.{both}
 use Rattle.path.proofs.Starts.{getD-any, table-next}
 use Rattle.path.proofs.Pushes.{ink-none, ink-place}
@@ -38,18 +39,18 @@ numbers-are bs strokes k a e x y ek ex ey =
     rw n (gather-shift (wordAt bs) k x (y - x) ∙ rw (ek, ex, ey))
 
 -- one stroke's line, and those after it
-module _ (num : ℕ → ℕ) (n : ℕ) (ss : List ℕ) (b : List ℕ) (k i : ℕ) {all : Pen ℕ} (inv : inked sets (pen b k) (linesOf (strokesOf num n (drop i ss))) ≡ all) where
-  pub stroke-turn : i < length ss → (b′ : List ℕ) (k′ : ℕ) → pen b′ k′ ≡ inked sets (pen b k) (lineOf (gather num (getD ss i n) (getD ss (i + 1) n - getD ss i n)))
-      → inked sets (pen b′ k′) (linesOf (strokesOf num n (drop (i + 1) ss))) ≡ all
+module _ (num : ℕ → ℕ) (n : ℕ) (ss : List ℕ) (b : List ℕ) (k i : ℕ) {all : Course ℕ} (inv : advanced sets (course b k) (linesOf (strokesOf num n (drop i ss))) ≡ all) where
+  pub stroke-turn : i < length ss → (b′ : List ℕ) (k′ : ℕ) → course b′ k′ ≡ advanced sets (course b k) (lineOf (gather num (getD ss i n) (getD ss (i + 1) n - getD ss i n)))
+      → advanced sets (course b′ k′) (linesOf (strokesOf num n (drop (i + 1) ss))) ≡ all
   unfolding joined
   stroke-turn h b′ k′ e =
       let line = lineOf (gather num (getD ss i n) (getD ss (i + 1) n - getD ss i n)) in
       let g : map lineOf (strokesOf num n (drop i ss)) ≡ line ∷ map lineOf (strokesOf num n (drop (i + 1) ss)) = rw (getD-any ss i n 0 h) (strokes-more lineOf num n ss i (getD ss (i + 1) n) h refl) in
-      ink-two b k line (linesOf (strokesOf num n (drop (i + 1) ss))) e ∙ ap (λ (l : List (List ℕ)). inked sets (pen b k) (joined l)) (sym g) ∙ inv
+      ink-two b k line (linesOf (strokesOf num n (drop (i + 1) ss))) e ∙ ap (λ (l : List (List ℕ)). advanced sets (course b k) (joined l)) (sym g) ∙ inv
 
-  pub stroke-end : length ss ≤ i → pen b k ≡ all
+  pub stroke-end : length ss ≤ i → course b k ≡ all
   unfolding joined
-  stroke-end h = sym (ink-none numbers-lie (pen b k)) ∙ ap (λ (l : List (List ℕ)). inked sets (pen b k) (joined l)) (sym (strokes-none lineOf num n ss i h)) ∙ inv
+  stroke-end h = sym (ink-none numbers-lie (course b k)) ∙ ap (λ (l : List (List ℕ)). advanced sets (course b k) (joined l)) (sym (strokes-none lineOf num n ss i h)) ∙ inv
 
 -- strokes of numbers that agree below n
 strokes-same : (f g : ℕ → ℕ) (n s : ℕ) (ss : List ℕ) → ((k : ℕ) → k < n → f k ≡ g k) → s ≤ n → goodFrom n s ss ≡ true → strokesOf f n (s ∷ ss) ≡ strokesOf g n (s ∷ ss)
@@ -145,16 +146,16 @@ refused-size n = let l = line-size (n ∷ []) in omega arith
 -- ---- the call
 
 -- the lines of all strokes after line one
-pub listed-put : (bs b : List ℕ) → isSheet bs ≡ true → (s p : ℕ) → s ≡ strokeCount bs → p ≡ pointCount bs → (b₁ b₂ : List ℕ) (k₁ k₂ : ℕ) → pen b₁ k₁ ≡ inked sets (pen b 0) (lineOf (gather (wordAt bs) modePlace startsOffset))
-    → pen b₂ k₂ ≡ inked sets (pen b₁ k₁) (linesOf (strokesOf (numberIn bs s) p (gather (wordAt bs) headerWords s))) → pen b₂ k₂ ≡ inked sets (pen b 0) (listed bs)
+pub listed-put : (bs b : List ℕ) → isSheet bs ≡ true → (s p : ℕ) → s ≡ strokeCount bs → p ≡ pointCount bs → (b₁ b₂ : List ℕ) (k₁ k₂ : ℕ) → course b₁ k₁ ≡ advanced sets (course b 0) (lineOf (gather (wordAt bs) modePlace startsOffset))
+    → course b₂ k₂ ≡ advanced sets (course b₁ k₁) (linesOf (strokesOf (numberIn bs s) p (gather (wordAt bs) headerWords s))) → course b₂ k₂ ≡ advanced sets (course b 0) (listed bs)
 unfolding listed gather startsIn
 listed-put bs b h s p es ep b₁ b₂ k₁ k₂ e₁ e₂ =
     let g : strokesOf (numberIn bs s) p (gather (wordAt bs) headerWords s) ≡ strokesIn (numbersIn bs) (startsIn bs) = rw (es, ep) (strokes-are bs h) in
-    e₂ ∙ ap (λ (l : List (List ℕ)). inked sets (pen b₁ k₁) (linesOf l)) g ∙ ink-two b 0 _ _ e₁
+    e₂ ∙ ap (λ (l : List (List ℕ)). advanced sets (course b₁ k₁) (linesOf l)) g ∙ ink-two b 0 _ _ e₁
 
 -- how long what is written is
-pub long : (b : List ℕ) (t : List ℕ) {b′ : List ℕ} {k : ℕ} → pen b′ k ≡ inked sets (pen b 0) t → length t ≤ mostText → k ≤ mostText
-long b t e h = omega (arith, ink-place sets (pen b 0) t e)
+pub long : (b : List ℕ) (t : List ℕ) {b′ : List ℕ} {k : ℕ} → course b′ k ≡ advanced sets (course b 0) t → length t ≤ mostText → k ≤ mostText
+long b t e h = omega (arith, ink-place sets (course b 0) t e)
 
 module _ (bs : List ℕ) where
   pub text-long : mostBytes < length bs → textOf bs ≡ refusedText (numberOf Count)
@@ -170,12 +171,12 @@ module _ (bs : List ℕ) where
   text-some h e = rw (le-leb (length bs) mostBytes h, e)
 
 -- the two returns
-pub text-is : (b t u : List ℕ) {b′ : List ℕ} {k : ℕ} → pen b′ k ≡ inked sets (pen b 0) t → u ≡ t → length t ≤ mostText → (pen b′ k ≡ inked sets (pen b 0) u) × (k ≤ mostText)
-text-is b t u e q h = (e ∙ ap (inked sets (pen b 0)) (sym q), long b t e h)
+pub text-is : (b t u : List ℕ) {b′ : List ℕ} {k : ℕ} → course b′ k ≡ advanced sets (course b 0) t → u ≡ t → length t ≤ mostText → (course b′ k ≡ advanced sets (course b 0) u) × (k ≤ mostText)
+text-is b t u e q h = (e ∙ ap (advanced sets (course b 0)) (sym q), long b t e h)
 
 -- the number in a refusal is the code's
-pub same-refusal : (b : List ℕ) (n m : ℕ) {b′ : List ℕ} {k : ℕ} → pen b′ k ≡ inked sets (pen b 0) (refusedText n) → n ≡ m → pen b′ k ≡ inked sets (pen b 0) (refusedText m)
-same-refusal b n m e q = e ∙ ap (λ (x : ℕ). inked sets (pen b 0) (refusedText x)) q
+pub same-refusal : (b : List ℕ) (n m : ℕ) {b′ : List ℕ} {k : ℕ} → course b′ k ≡ advanced sets (course b 0) (refusedText n) → n ≡ m → course b′ k ≡ advanced sets (course b 0) (refusedText m)
+same-refusal b n m e q = e ∙ ap (λ (x : ℕ). advanced sets (course b 0) (refusedText x)) q
 
 pub few-strokes : (bs : List ℕ) → isSheet bs ≡ true → strokeCount bs ≤ mostStrokes
 few-strokes bs h = limits (verticesIn bs) (strokeCount bs) (pointCount bs) (tested bs h .counts) .0

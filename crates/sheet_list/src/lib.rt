@@ -17,7 +17,7 @@ ghost use Prim.Native.Nat.{_+_, _-_, _*_, _≤_};
 ghost use lib.ListN.{getD};
 ghost use lib.Seq.{sets};
 ghost use Rattle.path.specs.Strokes.{gather, strokesOf};
-ghost use Rattle.path.specs.Laid.{pen, inked};
+ghost use Rattle.path.specs.InnerPushes.{course, advanced};
 ghost use Rattle.refusal.specs.Limits.{mostStrokes};
 ghost use Rattle.sheet.specs.Sheets.{headerWords, wordAt, isSheet};
 ghost use Rattle.sheet_list.specs.Listing.{topFrom, digitsFrom, decimal, spaced, lineOf, linesOf, numberIn, numbersAt, listed, refusedText, mostText, textOf};
@@ -46,7 +46,7 @@ fn top(x: u32) -> u32
 // Stores the digits of x from that of the power p down to the last, and answers the place after them.
 fn write_digits(x: u32, p: u32, out: &mut [u8], k: usize) -> usize
     requires { ⌜ k ≤ 0x4000_0000_0000_0000 ⌝ }
-    ensures { λ r. ⌜ (pen (now (out .exit)) r ≡ inked sets (pen (now (out .entry)) k) (digitsFrom 10 p x)) × (r ≤ k + 10) ⌝ }
+    ensures { λ r. ⌜ (course (now (out .exit)) r ≡ advanced sets (course (now (out .entry)) k) (digitsFrom 10 p x)) × (r ≤ k + 10) ⌝ }
 {
     let mut q = p;
     let mut at = k;
@@ -66,7 +66,7 @@ fn write_digits(x: u32, p: u32, out: &mut [u8], k: usize) -> usize
 // Stores x in decimal.
 fn write_number(x: u32, out: &mut [u8], k: usize) -> usize
     requires { ⌜ k ≤ 0x4000_0000_0000_0000 ⌝ }
-    ensures { λ r. ⌜ (pen (now (out .exit)) r ≡ inked sets (pen (now (out .entry)) k) (decimal x)) × (r ≤ k + 10) ⌝ }
+    ensures { λ r. ⌜ (course (now (out .exit)) r ≡ advanced sets (course (now (out .entry)) k) (decimal x)) × (r ≤ k + 10) ⌝ }
 {
     write_digits(x, top(x), out, k)
 }
@@ -74,7 +74,7 @@ fn write_number(x: u32, out: &mut [u8], k: usize) -> usize
 // Stores the words from a up to e, a space before each.
 fn write_more(bytes: &[u8], a: usize, e: usize, out: &mut [u8], k: usize) -> usize
     requires { ⌜ (a ≤ e) × (e ≤ 0x2_0000_0000) × (k ≤ 0x2000_0000_0000_0000) ⌝ }
-    ensures { λ r. ⌜ (pen (now (out .exit)) r ≡ inked sets (pen (now (out .entry)) k) (spaced (gather (wordAt (now (bytes .entry))) a (e - a)))) × (r ≤ k + 11 * (e - a)) ⌝ }
+    ensures { λ r. ⌜ (course (now (out .exit)) r ≡ advanced sets (course (now (out .entry)) k) (spaced (gather (wordAt (now (bytes .entry))) a (e - a)))) × (r ≤ k + 11 * (e - a)) ⌝ }
 {
     let mut i = a;
     let mut at = k;
@@ -89,7 +89,7 @@ fn write_more(bytes: &[u8], a: usize, e: usize, out: &mut [u8], k: usize) -> usi
 // Stores the words from a up to e as a line.
 fn write_line(bytes: &[u8], a: usize, e: usize, out: &mut [u8], k: usize) -> usize
     requires { ⌜ (e ≤ 0x2_0000_0000) × (k ≤ 0x1000_0000_0000_0000) ⌝ }
-    ensures { λ r. ⌜ (pen (now (out .exit)) r ≡ inked sets (pen (now (out .entry)) k) (lineOf (gather (wordAt (now (bytes .entry))) a (e - a)))) × (r ≤ k + 0x17_0000_0000) ⌝ }
+    ensures { λ r. ⌜ (course (now (out .exit)) r ≡ advanced sets (course (now (out .entry)) k) (lineOf (gather (wordAt (now (bytes .entry))) a (e - a)))) × (r ≤ k + 0x17_0000_0000) ⌝ }
 {
     if e <= a {
         put_byte(out, k, 10);
@@ -122,7 +122,7 @@ fn write_stroke(
     k: usize,
 ) -> usize
     requires { ⌜ (i ≤ mostStrokes) × (strokes ≤ mostStrokes) × (k ≤ 0x1000_0000_0000_0000) ⌝ }
-    ensures { λ r. ⌜ (pen (now (out .exit)) r ≡ inked sets (pen (now (out .entry)) k) (lineOf (numbersAt (now (bytes .entry)) strokes
+    ensures { λ r. ⌜ (course (now (out .exit)) r ≡ advanced sets (course (now (out .entry)) k) (lineOf (numbersAt (now (bytes .entry)) strokes
         (getD (gather (wordAt (now (bytes .entry))) headerWords strokes) i points) (getD (gather (wordAt (now (bytes .entry))) headerWords strokes) (i + 1) points)))) × (r ≤ k + 0x17_0000_0000) ⌝ }
 {
     let a = start_at(bytes, i, strokes, points);
@@ -134,7 +134,7 @@ fn write_stroke(
 // Stores the lines of all strokes.
 fn write_strokes(bytes: &[u8], strokes: usize, points: u32, out: &mut [u8], k: usize) -> usize
     requires { ⌜ (strokes ≤ mostStrokes) × (k ≤ 0x4000_0000_0000) ⌝ }
-    ensures { λ r. ⌜ pen (now (out .exit)) r ≡ inked sets (pen (now (out .entry)) k) (linesOf (strokesOf (numberIn (now (bytes .entry)) strokes) points (gather (wordAt (now (bytes .entry))) headerWords strokes))) ⌝ }
+    ensures { λ r. ⌜ course (now (out .exit)) r ≡ advanced sets (course (now (out .entry)) k) (linesOf (strokesOf (numberIn (now (bytes .entry)) strokes) points (gather (wordAt (now (bytes .entry))) headerWords strokes))) ⌝ }
 {
     let mut i: usize = 0;
     let mut at = k;
@@ -147,7 +147,7 @@ fn write_strokes(bytes: &[u8], strokes: usize, points: u32, out: &mut [u8], k: u
 
 // Stores `refused ` and the number; the eight bytes are two words.
 fn write_refused(n: u32, out: &mut [u8]) -> usize
-    ensures { λ r. ⌜ pen (now (out .exit)) r ≡ inked sets (pen (now (out .entry)) 0) (refusedText n) ⌝ }
+    ensures { λ r. ⌜ course (now (out .exit)) r ≡ advanced sets (course (now (out .entry)) 0) (refusedText n) ⌝ }
 {
     put_word(out, 0, 0x7566_6572);
     put_word(out, 1, 0x2064_6573);
@@ -159,7 +159,7 @@ fn write_refused(n: u32, out: &mut [u8]) -> usize
 // Stores the text of a sheet.
 fn write_listed(bytes: &[u8], out: &mut [u8]) -> usize
     requires { ⌜ isSheet (now bytes) ≡ true ⌝ }
-    ensures { λ r. ⌜ pen (now (out .exit)) r ≡ inked sets (pen (now (out .entry)) 0) (listed (now (bytes .entry))) ⌝ }
+    ensures { λ r. ⌜ course (now (out .exit)) r ≡ advanced sets (course (now (out .entry)) 0) (listed (now (bytes .entry))) ⌝ }
 {
     let k = write_line(bytes, MODE, STARTS_OFFSET, out, 0);
     let strokes = word_at(bytes, STROKES) as usize;
@@ -168,7 +168,7 @@ fn write_listed(bytes: &[u8], out: &mut [u8]) -> usize
 
 // Stores the text that lists the bytes, as far as there is room, and answers how long it is.
 pub fn list(bytes: &[u8], out: &mut [u8]) -> usize
-    ensures { λ r. ⌜ pen (now (out .exit)) r ≡ inked sets (pen (now (out .entry)) 0) (textOf (now (bytes .entry))) ⌝ }
+    ensures { λ r. ⌜ course (now (out .exit)) r ≡ advanced sets (course (now (out .entry)) 0) (textOf (now (bytes .entry))) ⌝ }
     ensures { λ r. ⌜ r ≤ mostText ⌝ }
 {
     if MOST_BYTES < bytes.len() {

@@ -1,4 +1,4 @@
--- Reading a written sheet, where there is room, gives mode and vertices back, and the strokes that have points. Assumes nothing.
+-- Reading a written sheet, where there is room, gives mode and vertices back, and the strokes that have points.
 use mathlib.Core.Path.{_≡_, sym, ap, _∙_}
 use mathlib.Core.List.{List, [], _∷_}
 use Prim.Native.Nat.{ℕ, _+_, _≤_}

@@ -1,4 +1,4 @@
--- The call as a whole: what its tests grant, and what it then leaves. Assumes nothing.
+-- The call as a whole: what its tests grant, and what it then leaves.
 use mathlib.Core.Path.{_≡_, _∙_}
 use mathlib.Core.Bool.{true, _&&_}
 use mathlib.Core.List.{List, [], _∷_}

@@ -1,4 +1,4 @@
--- The loops over the words of a sheet. Assumes nothing.
+-- The loops over the words of a sheet.
 use mathlib.Core.Path.{_≡_, sym, ap, _∙_}
 use mathlib.Core.Bool.{true, false}
 use mathlib.Core.List.{List}

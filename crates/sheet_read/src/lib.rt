@@ -145,7 +145,7 @@ fn room_for(bytes: &[u8], room: usize, start_room: usize) -> bool
 }
 
 // The tests before the call's work: bytes that are no sheet come before missing room. Nothing lent is touched.
-fn verdict(bytes: &[u8], room: usize, start_room: usize) -> Verdict
+fn read_verdict(bytes: &[u8], room: usize, start_room: usize) -> Verdict
     ensures { λ r. ⌜ r ≡ verdictOf (now (bytes .entry)) room «start_room» ⌝ }
 {
     if !is_sheet(bytes) {
@@ -174,7 +174,7 @@ pub fn read_sheet(bytes: &[u8], out_numbers: &mut [u32], out_starts: &mut [u32])
     ensures { λ r. ⌜ left (said r) (now («out_numbers» .exit)) (now («out_starts» .exit))
         ≡ readLeft (now (bytes .entry)) (now («out_numbers» .entry)) (now («out_starts» .entry)) ⌝ }
 {
-    let v = verdict(bytes, out_numbers.len(), out_starts.len());
+    let v = read_verdict(bytes, out_numbers.len(), out_starts.len());
     match v {
         Verdict::Refused(r) => SheetRead::Refused(r),
         Verdict::Accepted => {

@@ -1,4 +1,4 @@
--- The call as a whole: what its tests grant, what the parts come to, and what it leaves. Assumes nothing.
+-- The call as a whole: what its tests grant, what the parts come to, and what it leaves.
 use mathlib.Core.Path.{_≡_, sym, ap, _∙_}
 use mathlib.Core.Bool.{true}
 use mathlib.Core.List.{List, [], _∷_, _++_}

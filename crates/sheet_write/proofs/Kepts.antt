@@ -1,4 +1,4 @@
--- The loops over the starts that are written. Assumes nothing.
+-- The loops over the starts that are written.
 use mathlib.Core.Path.{_≡_, refl, ap}
 use mathlib.Core.Bool.{true, false}
 use mathlib.Core.List.{List, [], _∷_, _++_}

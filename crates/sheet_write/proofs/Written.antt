@@ -1,4 +1,4 @@
--- What an accepted call writes is a sheet, from which mode, vertices and the strokes that have points are read back. Assumes nothing.
+-- What an accepted call writes is a sheet, from which mode, vertices and the strokes that have points are read back.
 use mathlib.Core.Path.{_≡_, ap}
 use mathlib.Core.Bool.{true}
 use mathlib.Core.List.{List}

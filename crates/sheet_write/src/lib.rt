@@ -127,7 +127,7 @@ fn fits(starts: &[u32], n: usize, room: usize) -> bool
 }
 
 // The tests before the call's work: the lowest refusal that applies. Nothing lent is touched.
-fn verdict(mode: u32, vertices: u32, numbers: &[u32], starts: &[u32], room: usize) -> Verdict
+fn write_verdict(mode: u32, vertices: u32, numbers: &[u32], starts: &[u32], room: usize) -> Verdict
     ensures { λ r. ⌜ r ≡ verdictOf mode vertices (now (numbers .entry)) (now (starts .entry)) room ⌝ }
 {
     if !rising(starts, numbers.len()) {
@@ -172,7 +172,7 @@ pub fn write_sheet(
 ) -> SheetWritten
     ensures { λ r. ⌜ left (said r) (now (out .exit)) ≡ writeLeft mode vertices (now (numbers .entry)) (now (starts .entry)) (now (out .entry)) ⌝ }
 {
-    let v = verdict(mode, vertices, numbers, starts, out.len());
+    let v = write_verdict(mode, vertices, numbers, starts, out.len());
     match v {
         Verdict::Refused(r) => SheetWritten::Refused(r),
         Verdict::Accepted => {

@@ -4,7 +4,7 @@ use mathlib.Core.Path.{_≡_, refl, sym, ap, _∙_}
 use Prim.Native.Nat.{_-_, _*_, _≤_}
 use native.Mathlib.Omega.{arith}
 use lib.ListN.{length}
-use Rattle.path.specs.Laid.{out, push, pushAll, putPoints}
+use Rattle.path.specs.InnerPushes.{out, push, pushAll, putPoints}
 use Rattle.path.proofs.Pushes.{push-turn, push-end}
 use Rattle.mesh.specs.Meshes.{faceAt}
 use Rattle.mesh_section.specs.declared.Cut.{Cut}

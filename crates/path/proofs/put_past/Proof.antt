@@ -1,6 +1,6 @@
 -- `put_past` meets its contract.
 use Rattle.path.proofs.Points.{putPoint-out}
-use Rattle.path.specs.Laid.{putPoint}
+use Rattle.path.specs.InnerPushes.{putPoint}
 use mathlib.Core.Path.{sym}
 use borrow.Author.Needs.{needs}
 use Rattle.path.proofs.put_past.Statement.{statement}

@@ -2,7 +2,7 @@
 use mathlib.Core.Path.{refl}
 use native.Mathlib.Omega.{arith}
 use lib.ListN.{length-set}
-use Rattle.path.specs.Laid.{putPoint}
+use Rattle.path.specs.InnerPushes.{putPoint}
 use borrow.Author.Needs.{needs}
 use Rattle.path.proofs.put_point.Statement.{statement}
 use Rattle.path.proofs.put_point.Tie as tie

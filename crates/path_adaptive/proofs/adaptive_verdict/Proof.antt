@@ -5,7 +5,7 @@ use Rattle.path_adaptive.specs.declared.View.{View}
 use Rattle.path_adaptive.specs.declared.Tally.the-variants.{Left}
 use Rattle.path_adaptive.specs.Walk.{walksOf}
 use Rattle.path_adaptive.specs.Call.{pointRoom, adaptiveVerdict}
-use Rattle.path_adaptive.specs.Tally.{spentAll, verdictOf}
+use Rattle.path_adaptive.specs.Tally.{spentAll, verdictBy}
 use Prim.Native.Nat.{_/_}
 use native.Mathlib.Omega.{arith}
 use native.Mathlib.Nat.{min-le-right}
@@ -61,7 +61,7 @@ unfolding adaptiveVerdict unless
 returns-5 c =
     let a = c .before .before .before .before .before .before .before .before .before .before .before .before .before .before .args in
     let t = Left (c .before .before .point-room .result) (a .start-room) in
-    let q = c .verdict-of .ensures ∙ ap verdictOf (c .before .measure-strokes .ensures ∙ ap (λ (x : View). spentAll t (walksOf x (a .points .now) (a .starts .now))) (c .before .before .before .view-of .ensures)) in
+    let q = c .verdict-of .ensures ∙ ap verdictBy (c .before .measure-strokes .ensures ∙ ap (λ (x : View). spentAll t (walksOf x (a .points .now) (a .starts .now))) (c .before .before .before .view-of .ensures)) in
     simp (sym (c .before .before .before .before .before .before .before .before .before .before .before .shaped .ensures) ∙ not-false _ (c .before .before .before .before .before .before .before .before .before .before .if1 .left), sym (c .before .before .before .before .before .before .before .before .before .counted .ensures) ∙ not-false _ (c .before .before .before .before .before .before .before .before .if2 .left), sym (c .before .before .before .before .before .before .before .coordinates-good .ensures) ∙ not-false _ (c .before .before .before .before .before .before .if3 .left), sym (c .before .before .before .before .before .numbers-good .ensures) ∙ not-false _ (c .before .before .before .before .if4 .left)) (q ∙ rw (c .before .before .point-room .ensures))
 
 pub adaptive-verdict-spec : {M : Type 1} → statement M

@@ -4,7 +4,7 @@ use Rattle.path_adaptive.proofs.Calls.{accepted-at}
 use Rattle.refusal.proofs.Outcomes.{accept, refuse}
 use Rattle.path.proofs.Calls.{wrote-all}
 use Rattle.path.proofs.Pushes.{front}
-use Rattle.path.specs.Laid.{putPoints, out, pushAll}
+use Rattle.path.specs.InnerPushes.{putPoints, out, pushAll}
 use Rattle.path_adaptive.specs.Walk.{viewOf, walksOf, adapted, halvingsOf}
 use Rattle.path_adaptive.specs.Call.{adaptiveLeft}
 use Rattle.path.specs.Call.{laid}

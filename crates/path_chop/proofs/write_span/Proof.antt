@@ -1,6 +1,6 @@
 -- `write_span` meets its contract.
 use Rattle.path_chop.proofs.Chops.{span-length, span-at, span-ink}
-use Rattle.path.specs.Laid.{pen}
+use Rattle.path.specs.InnerPushes.{course}
 use native.Mathlib.Omega.{arith}
 use borrow.Author.Needs.{needs}
 use Rattle.path_chop.proofs.write_span.Statement.{statement}
@@ -19,7 +19,7 @@ add-result : tie.Need-add-result
 add-result c =
     let a = c .before .before .before .before .before .before .before .before .before .args in
     let p = c .before .before .before .before .before .before .before .before .before .pre in
-    let e = span-at (a .step) (a .a) (a .b) (a .v) (a .l) (p .0) (p .1) (pen (a .out .now) (a .at)) _ _ (c .before .before .before .before .before .before .write-steps .ensures) in
+    let e = span-at (a .step) (a .a) (a .b) (a .v) (a .l) (p .0) (p .1) (course (a .out .now) (a .at)) _ _ (c .before .before .before .before .before .before .write-steps .ensures) in
     omega (arith, p .2)
 
 same-length : tie.Need-same-length
@@ -29,7 +29,7 @@ returns : tie.Need-returns
 returns c =
     let a = c .before .before .before .before .before .before .before .before .before .args in
     let p = c .before .before .before .before .before .before .before .before .before .pre in
-    span-ink (a .step) (a .a) (a .b) (a .v) (a .l) (p .0) (p .1) (pen (a .out .now) (a .at)) _ _ (c .before .before .before .before .before .before .write-steps .ensures) (c .before .before .put-point .ensures)
+    span-ink (a .step) (a .a) (a .b) (a .v) (a .l) (p .0) (p .1) (course (a .out .now) (a .at)) _ _ (c .before .before .before .before .before .before .write-steps .ensures) (c .before .before .put-point .ensures)
 
 pub write-span-spec : {M : Type 1} → statement M
 write-span-spec = tie.close (tie.spec write-steps-requires put-point-requires add-result same-length returns)

@@ -6,7 +6,7 @@ use Rattle.vector.specs.declared.Vector.{Vector}
 use Rattle.vector.specs.Vectors.{subOf}
 use Rattle.vector.specs.Lengths.{lengthOf}
 use Rattle.path.specs.Strokes.{pointAt, gather}
-use Rattle.path.specs.Laid.{putPoints, pen, inked, out}
+use Rattle.path.specs.InnerPushes.{putPoints, course, advanced, out}
 use Rattle.path_chop.specs.Chop.{tooMany, spans}
 use Rattle.path_chop.specs.InnerCounts.{reachOf}
 use lib.ListN.{length}
@@ -18,7 +18,7 @@ use Rattle.path_chop.proofs.write_spans.Tie as tie
 
 abbrev Inv-loop : tie.InvT-loop
 Inv-loop points i e step out₀ at j₀ o₀ p₀ v₀ l₀ out j o p v l =
-    (length out ≡ length out₀) × (inked putPoints (pen out o) (spans tooMany step p (gather (pointAt points) j (e - j))) ≡ inked putPoints (pen out₀ at) (spans tooMany step p₀ (gather (pointAt points) i (e - i))))
+    (length out ≡ length out₀) × (advanced putPoints (course out o) (spans tooMany step p (gather (pointAt points) j (e - j))) ≡ advanced putPoints (course out₀ at) (spans tooMany step p₀ (gather (pointAt points) i (e - i))))
     × (v ≡ subOf (pointAt points j) p) × (l ≡ reachOf step (lengthOf v))
 
 abbrev μ-loop : tie.MeasureT-loop
@@ -66,7 +66,7 @@ write-span-requires c κs =
     let q = c .before .before .before .before .before .point-at2 .ensures in (
       l .loop .inv .2 ∙ ap (λ (z : Vector). subOf z (l .loop .p)) (sym q),
       l .loop .inv .3,
-      omega (arith, spans-room (a .step) (pointAt (a .points .now)) (l .loop .j) (a .e) (l .loop .p) (search needs) _ q (pen (l .loop .out) (l .loop .o)) (pen (a .out .now) (a .at)) _ (l .loop .inv .1)),
+      omega (arith, spans-room (a .step) (pointAt (a .points .now)) (l .loop .j) (a .e) (l .loop .p) (search needs) _ q (course (l .loop .out) (l .loop .o)) (course (a .out .now) (a .at)) _ (l .loop .inv .1)),
     )
 
 add-j : tie.Need-add-j Inv-loop μ-loop
@@ -81,7 +81,7 @@ loop-again c =
     let a = c .before .before .before .before .before .before .before .before .before .before .before .before .before .before .before .before .before .args in
     let q = c .before .before .before .before .before .before .before .before .point-at2 in (
       cc,
-      spans-turn (a .step) (pointAt (a .points .now)) (l .loop .j) (a .e) (l .loop .p) (c .before .before .before .before .before .before .before .before .before .loop-test .taken) _ (q .ensures) (pen (l .loop .out) (l .loop .o)) _ (c .before .before .write-span .ensures) ∙ l .loop .inv .1,
+      spans-turn (a .step) (pointAt (a .points .now)) (l .loop .j) (a .e) (l .loop .p) (c .before .before .before .before .before .before .before .before .before .loop-test .taken) _ (q .ensures) (course (l .loop .out) (l .loop .o)) _ (c .before .before .write-span .ensures) ∙ l .loop .inv .1,
       c .before .before .before .before .before .before .sub2 .ensures ∙ ap (λ (z : Vector). subOf z (q .result)) (c .before .before .before .before .before .before .before .point-at3 .ensures),
       reach-is (a .step) _ _ _ (c .before .before .before .before .before .length-squared2 .ensures) (c .before .before .before .before .reach2 .ensures),
     )

@@ -4,7 +4,7 @@ use Rattle.vector.specs.Vectors.{addOf}
 use borrow.Author.Needs.{needs}
 use Rattle.path_chop.proofs.Chops.{steps-turn, steps-room, steps-halt, steps-end}
 use mathlib.Core.List.{map}
-use Rattle.path.specs.Laid.{putPoints, pen, inked, out}
+use Rattle.path.specs.InnerPushes.{putPoints, course, advanced, out}
 use Rattle.path_chop.specs.Chop.{tooMany, along, stepsOf}
 use lib.ListN.{length}
 use Prim.Native.Nat.{_-_, _≤_}
@@ -14,7 +14,7 @@ use Rattle.path_chop.proofs.write_steps.Statement.{statement}
 use Rattle.path_chop.proofs.write_steps.Tie as tie
 
 abbrev Inv-loop : tie.InvT-loop
-Inv-loop a v l step out₀ at n₀ o₀ d₀ out n o d = (n ≤ tooMany) × (length out ≡ length out₀) × (inked putPoints (pen out o) (map (along a v l) (stepsOf (tooMany - n) l step d)) ≡ inked putPoints (pen out₀ at) (map (along a v l) (stepsOf tooMany l step step)))
+Inv-loop a v l step out₀ at n₀ o₀ d₀ out n o d = (n ≤ tooMany) × (length out ≡ length out₀) × (advanced putPoints (course out o) (map (along a v l) (stepsOf (tooMany - n) l step d)) ≡ advanced putPoints (course out₀ at) (map (along a v l) (stepsOf tooMany l step step)))
 
 abbrev μ-loop : tie.MeasureT-loop
 μ-loop a v l step out₀ at n₀ o₀ d₀ out n o d = tooMany - n
@@ -38,7 +38,7 @@ add-o : tie.Need-add-o Inv-loop μ-loop
 add-o c =
     let l = c .before .before .before .before .before .before .before .before in
     let a = l .before .before .args in
-    omega (arith, steps-room (along (a .a) (a .v) (a .l)) (l .loop .n) tooMany (a .l) (a .step) (l .loop .d) (l .loop .out) (l .loop .o) (search needs) (search needs) (pen (a .out .now) (a .at)) (stepsOf tooMany (a .l) (a .step) (a .step)) (l .loop .inv .2))
+    omega (arith, steps-room (along (a .a) (a .v) (a .l)) (l .loop .n) tooMany (a .l) (a .step) (l .loop .d) (l .loop .out) (l .loop .o) (search needs) (search needs) (course (a .out .now) (a .at)) (stepsOf tooMany (a .l) (a .step) (a .step)) (l .loop .inv .2))
 
 loop-less : tie.Need-loop-less Inv-loop μ-loop
 loop-less c = omega arith

@@ -1,9 +1,9 @@
 -- `write_stroke` meets its contract.
 use Rattle.path_chop.proofs.Counts.{kept-zero, kept-one}
 use Rattle.path_chop.proofs.Chops.{stroke-short, stroke-some}
-use Rattle.path.proofs.Pushes.{push-none, push-pen}
+use Rattle.path.proofs.Pushes.{push-none, push-course}
 use Rattle.path.specs.Strokes.{pointAt}
-use Rattle.path.specs.Laid.{putPoints, out}
+use Rattle.path.specs.InnerPushes.{putPoints, out}
 use Prim.Native.Nat.{_-_}
 use native.Mathlib.Omega.{arith}
 use mathlib.Core.Path.{sym, _∙_}
@@ -44,7 +44,7 @@ returns-2 c =
     let a = c .before .before .before .before .before .before .before .before .before .before .before .before .before .args in
     let h = kept-one (a .e - a .a) (λ z. c .before .before .before .before .before .before .before .before .if1 .left (c .before .before .before .before .before .before .before .before .before .kept .ensures ∙ z)) in
     rw (c .before .before .before .before .before .before .put-number .ensures)
-    (push-pen putPoints (out (a .out-points .now) (a .out-starts .now) (a .p)) _ (stroke-some (a .step) (pointAt (a .points .now)) (a .a) (a .e) (omega arith)) _ _ (c .before .before .write-chopped .ensures))
+    (push-course putPoints (out (a .out-points .now) (a .out-starts .now) (a .p)) _ (stroke-some (a .step) (pointAt (a .points .now)) (a .a) (a .e) (omega arith)) _ _ (c .before .before .write-chopped .ensures))
 
 pub write-stroke-spec : {M : Type 1} → statement M
 write-stroke-spec =

@@ -3,7 +3,7 @@
 use borrow.Author.Needs.{needs}
 use Rattle.path_chop.proofs.Chops.{chopped-more, chopped-none}
 use Rattle.path.proofs.Pushes.{push-turn, push-end, push-room, push-starts}
-use Rattle.path.specs.Laid.{putPoints, out, pushAll}
+use Rattle.path.specs.InnerPushes.{putPoints, out, pushAll}
 use Rattle.path_chop.specs.Chop.{choppedOf}
 use lib.ListN.{length, drop}
 use Prim.Native.Nat.{zero-le, _-_, _≤_}

@@ -1,6 +1,5 @@
 -- `new` meets its contract: a walk of its MIR, by hand. A `Reader` is made of the two slices passed and 0, in the result's local.
 -- A `&[u32]` is Copy, so what each owns is had twice: once for the parameters at exit, and once inside the result, beside the facts of at.
--- Assumes nothing.
 use mathlib.Core.Path.{refl}
 use Prim.Native.Nat.{ℕ}
 use mathlib.Core.List.{List, [], _∷_}

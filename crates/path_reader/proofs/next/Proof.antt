@@ -1,6 +1,5 @@
 -- `next` meets its contract: a walk of its MIR, by hand. The struct is taken apart, and `stroke_at` is called on its fields in their order. All that the proof knows of `stroke_at` is that it meets its contract.
 -- The struct is Copy: what it owns is had twice, one copy is kept whole for the exit, and the other goes to the callee, beside the lifetime's token, which comes back.
--- Assumes nothing.
 use mathlib.Core.Path.{_≡_, refl}
 use Prim.Native.Nat.{ℕ}
 use mathlib.Core.List.{List, [], _∷_}

@@ -1,6 +1,5 @@
 -- `rest` meets its contract: a walk of its MIR, by hand. `next_at` is called on the starts and the number, and a struct is made anew of the two slices and what it answers. All that the proof knows of `next_at` is that it meets its contract.
 -- The struct is Copy: what it owns is had twice, one copy is kept whole for the exit, and of the other what starts owns goes to the callee, beside the lifetime's token, which comes back.
--- Assumes nothing.
 use mathlib.Core.Path.{_≡_, refl, ap}
 use Prim.Native.Nat.{ℕ, _<_, _^_}
 use mathlib.Core.List.{[], _∷_}

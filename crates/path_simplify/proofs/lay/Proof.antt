@@ -8,7 +8,7 @@ use native.Mathlib.Omega.{arith}
 use native.Mathlib.Nat.{add-zero}
 use lib.ListN.{length, take, drop}
 use Rattle.path.specs.Strokes.{pointAt}
-use Rattle.path.specs.Laid.{putPoints}
+use Rattle.path.specs.InnerPushes.{putPoints}
 use Rattle.path_simplify.specs.InnerNotes.{count, thinAt}
 use Rattle.path_simplify.proofs.Notes.{lay-turn, lay-end}
 use Rattle.path_simplify.proofs.lay.Statement.{statement}

@@ -4,7 +4,7 @@ use borrow.Author.Needs.{needs}
 use Rattle.path_simplify.proofs.Totals.{thins-more, thins-none, more-points, more-distances, ends-in, short-in}
 use Rattle.path.proofs.Pushes.{push-turn, push-end, push-room, push-starts}
 use Rattle.path.specs.Strokes.{pointAt}
-use Rattle.path.specs.Laid.{putPoints, out, pushAll}
+use Rattle.path.specs.InnerPushes.{putPoints, out, pushAll}
 use Rattle.path_simplify.specs.Simplify.{simplified, distances, simplifiedOf}
 use Rattle.path_simplify.specs.InnerSquares.{placeOf}
 use Prim.Native.Nat.{ℕ, _/_}

@@ -3,7 +3,7 @@ use native.Mathlib.Omega.{arith}
 use Prim.Native.Nat.{_+_, _-_, _*_}
 use lib.ListN.{length}
 use Rattle.path_splice.proofs.Answers.{out-points, out-starts, laid-out}
-use Rattle.path_link.proofs.Threads.{threads-woven}
+use Rattle.path_splice_links.proofs.Threads.{threads-woven}
 use borrow.Author.Needs.{needs}
 use Rattle.path_splice.proofs.draw.Statement.{statement}
 use Rattle.path_splice.proofs.draw.Tie as tie

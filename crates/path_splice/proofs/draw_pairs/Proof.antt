@@ -3,7 +3,7 @@ use mathlib.Core.Path.{sym}
 use Prim.Native.Nat.{_*_}
 use native.Mathlib.Omega.{arith}
 use lib.Seq.{length-take-le}
-use Rattle.path_link.proofs.Threads.{threads-woven}
+use Rattle.path_splice_links.proofs.Threads.{threads-woven}
 use Rattle.path_splice.proofs.Pairs.{asks, gives}
 use borrow.Author.Needs.{needs}
 use Rattle.path_splice.proofs.draw_pairs.Statement.{statement}

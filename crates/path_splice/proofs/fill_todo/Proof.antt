@@ -6,7 +6,7 @@ use Prim.Native.Nat.{ℕ, _-_, _<_, _≤_}
 use lib.ListN.{getD, length, length-set}
 use mathlib.Core.List.{[]}
 use Rattle.path.specs.Strokes.{strokesIn}
-use Rattle.path_ends.specs.Splice.{present}
+use Rattle.path_splice_rule.specs.Splice.{present}
 use Rattle.path_splice.proofs.Tables.{fill-turn}
 use borrow.Author.Needs.{needs}
 use Rattle.path_splice.proofs.fill_todo.Statement.{statement}

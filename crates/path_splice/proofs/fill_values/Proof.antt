@@ -4,7 +4,7 @@ use mathlib.Core.Path.{_≡_, refl}
 use Prim.Native.Nat.{ℕ, _-_, _<_, _≤_}
 use lib.ListN.{getD, length, length-set}
 use Rattle.path.specs.Strokes.{strokesIn}
-use Rattle.path_ends.specs.Splice.{valueAt}
+use Rattle.path_splice_rule.specs.Splice.{valueAt}
 use Rattle.path_splice.proofs.Tables.{fill-turn}
 use borrow.Author.Needs.{needs}
 use Rattle.path_splice.proofs.fill_values.Statement.{statement}

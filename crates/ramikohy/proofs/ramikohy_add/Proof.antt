@@ -1,4 +1,4 @@
--- `ramikohy_add` meets its contract, by those of what it calls. Assumes nothing.
+-- `ramikohy_add` meets its contract, by those of what it calls.
 use borrow.Author.Needs.{needs}
 use Rattle.ramikohy.proofs.ramikohy_add.Statement.{statement}
 use Rattle.ramikohy.proofs.ramikohy_add.Tie as tie

@@ -1,4 +1,4 @@
--- `ramikohy_cross` meets its contract, by those of what it calls. Assumes nothing.
+-- `ramikohy_cross` meets its contract, by those of what it calls.
 use borrow.Author.Needs.{needs}
 use Rattle.ramikohy.proofs.ramikohy_cross.Statement.{statement}
 use Rattle.ramikohy.proofs.ramikohy_cross.Tie as tie

@@ -1,4 +1,4 @@
--- `ramikohy_distance` meets its contract, by those of what it calls. Assumes nothing.
+-- `ramikohy_distance` meets its contract, by those of what it calls.
 use borrow.Author.Needs.{needs}
 use Rattle.ramikohy.proofs.ramikohy_distance.Statement.{statement}
 use Rattle.ramikohy.proofs.ramikohy_distance.Tie as tie

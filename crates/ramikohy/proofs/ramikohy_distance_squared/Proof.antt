@@ -1,4 +1,4 @@
--- `ramikohy_distance_squared` meets its contract, by those of what it calls. Assumes nothing.
+-- `ramikohy_distance_squared` meets its contract, by those of what it calls.
 use borrow.Author.Needs.{needs}
 use Rattle.ramikohy.proofs.ramikohy_distance_squared.Statement.{statement}
 use Rattle.ramikohy.proofs.ramikohy_distance_squared.Tie as tie

@@ -1,4 +1,4 @@
--- `ramikohy_div` meets its contract, by those of what it calls. Assumes nothing.
+-- `ramikohy_div` meets its contract, by those of what it calls.
 use borrow.Author.Needs.{needs}
 use Rattle.ramikohy.proofs.ramikohy_div.Statement.{statement}
 use Rattle.ramikohy.proofs.ramikohy_div.Tie as tie

@@ -1,4 +1,4 @@
--- `ramikohy_dot` meets its contract, by those of what it calls. Assumes nothing.
+-- `ramikohy_dot` meets its contract, by those of what it calls.
 use borrow.Author.Needs.{needs}
 use Rattle.ramikohy.proofs.ramikohy_dot.Statement.{statement}
 use Rattle.ramikohy.proofs.ramikohy_dot.Tie as tie

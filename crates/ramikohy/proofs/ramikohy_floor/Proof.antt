@@ -1,4 +1,4 @@
--- `ramikohy_floor` meets its contract, by that of `floor` and of the refusal's number. Assumes nothing.
+-- `ramikohy_floor` meets its contract, by that of `floor` and of the refusal's number.
 use mathlib.Core.Path.{sym, ap, _∙_}
 use mir.Syntax.{w64}
 use mir.ValLaws.{toZ-ofZ}

@@ -1,4 +1,4 @@
--- `ramikohy_length` meets its contract, by those of what it calls. Assumes nothing.
+-- `ramikohy_length` meets its contract, by those of what it calls.
 use borrow.Author.Needs.{needs}
 use Rattle.ramikohy.proofs.ramikohy_length.Statement.{statement}
 use Rattle.ramikohy.proofs.ramikohy_length.Tie as tie

@@ -1,4 +1,4 @@
--- `ramikohy_length_squared` meets its contract, by those of what it calls. Assumes nothing.
+-- `ramikohy_length_squared` meets its contract, by those of what it calls.
 use borrow.Author.Needs.{needs}
 use Rattle.ramikohy.proofs.ramikohy_length_squared.Statement.{statement}
 use Rattle.ramikohy.proofs.ramikohy_length_squared.Tie as tie

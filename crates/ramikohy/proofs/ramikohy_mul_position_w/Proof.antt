@@ -1,4 +1,4 @@
--- `ramikohy_mul_position_w` meets its contract, by those of what it calls. Assumes nothing.
+-- `ramikohy_mul_position_w` meets its contract, by those of what it calls.
 use borrow.Author.Needs.{needs}
 use Rattle.ramikohy.proofs.ramikohy_mul_position_w.Statement.{statement}
 use Rattle.ramikohy.proofs.ramikohy_mul_position_w.Tie as tie

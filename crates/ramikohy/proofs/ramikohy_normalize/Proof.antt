@@ -1,4 +1,4 @@
--- `ramikohy_normalize` meets its contract, by those of what it calls. Assumes nothing.
+-- `ramikohy_normalize` meets its contract, by those of what it calls.
 use mathlib.Core.Path.{sym, ap, _∙_}
 use borrow.Author.Needs.{needs}
 use denote.Ref.{now}

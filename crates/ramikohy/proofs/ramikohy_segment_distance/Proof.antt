@@ -1,4 +1,4 @@
--- `ramikohy_segment_distance` meets its contract, by those of what it calls. Assumes nothing.
+-- `ramikohy_segment_distance` meets its contract, by those of what it calls.
 use borrow.Author.Needs.{needs}
 use Rattle.ramikohy.proofs.ramikohy_segment_distance.Statement.{statement}
 use Rattle.ramikohy.proofs.ramikohy_segment_distance.Tie as tie

@@ -1,4 +1,4 @@
--- `ramikohy_sqrt` meets its contract, by that of `sqrt` and of the refusal's number. Assumes nothing.
+-- `ramikohy_sqrt` meets its contract, by that of `sqrt` and of the refusal's number.
 use mathlib.Core.Path.{sym, ap, _∙_}
 use borrow.Author.Needs.{needs}
 use denote.Ref.{now}

@@ -5,14 +5,14 @@ use Prim.Native.Nat.{_+_, _-_, _≤_}
 use native.Mathlib.Omega.{arith}
 use lib.ListN.{length, length-set}
 use lib.Seq.{sets}
-use Rattle.path.specs.Laid.{pen, inked}
+use Rattle.path.specs.InnerPushes.{course, advanced}
 use Rattle.sheet_list.specs.Listing.{digitsFrom}
 use Rattle.sheet_list.proofs.Inks.{above, digit-turn, digit-stop, digit-end}
 use Rattle.sheet_list.proofs.write_digits.Statement.{statement}
 use Rattle.sheet_list.proofs.write_digits.Tie as tie
 
 abbrev Inv-loop : tie.InvT-loop
-Inv-loop x p out₀ k q₀ at₀ i₀ out q at i = (i ≤ 10) × (at ≤ k + i) × (length out ≡ length out₀) × (inked sets (pen out at) (digitsFrom (10 - i) q x) ≡ inked sets (pen out₀ k) (digitsFrom 10 p x))
+Inv-loop x p out₀ k q₀ at₀ i₀ out q at i = (i ≤ 10) × (at ≤ k + i) × (length out ≡ length out₀) × (advanced sets (course out at) (digitsFrom (10 - i) q x) ≡ advanced sets (course out₀ k) (digitsFrom 10 p x))
 
 abbrev μ-loop : tie.MeasureT-loop
 μ-loop x p out₀ k q₀ at₀ i₀ out q at i = 10 - i

@@ -6,7 +6,7 @@ use native.Mathlib.Omega.{arith}
 use lib.ListN.{length}
 use lib.Seq.{sets}
 use Rattle.path.specs.Strokes.{gather}
-use Rattle.path.specs.Laid.{pen, inked}
+use Rattle.path.specs.InnerPushes.{course, advanced}
 use Rattle.sheet.specs.Sheets.{wordAt}
 use Rattle.sheet_list.specs.Listing.{spaced}
 use Rattle.sheet_list.proofs.Inks.{space-turn, space-end}
@@ -16,7 +16,7 @@ use Rattle.sheet_list.proofs.write_more.Tie as tie
 abbrev Inv-loop : tie.InvT-loop
 Inv-loop bytes a e out₀ k i₀ at₀ out i at =
     (a ≤ i) × (i ≤ e) × (at ≤ k + 11 * (i - a)) × (length out ≡ length out₀)
-    × (inked sets (pen out at) (spaced (gather (wordAt bytes) i (e - i))) ≡ inked sets (pen out₀ k) (spaced (gather (wordAt bytes) a (e - a))))
+    × (advanced sets (course out at) (spaced (gather (wordAt bytes) i (e - i))) ≡ advanced sets (course out₀ k) (spaced (gather (wordAt bytes) a (e - a))))
 
 abbrev μ-loop : tie.MeasureT-loop
 μ-loop bytes a e out₀ k i₀ at₀ out i at = e - i

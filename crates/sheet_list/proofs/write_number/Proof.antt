@@ -2,7 +2,7 @@
 use mathlib.Core.Path.{ap, _∙_}
 use Prim.Native.Nat.{ℕ}
 use lib.Seq.{sets}
-use Rattle.path.specs.Laid.{pen, inked}
+use Rattle.path.specs.InnerPushes.{course, advanced}
 use Rattle.sheet_list.specs.Listing.{digitsFrom, decimal}
 use borrow.Author.Needs.{needs}
 use Rattle.sheet_list.proofs.write_number.Statement.{statement}
@@ -22,7 +22,7 @@ unfolding decimal
 returns c =
     let a = c .before .before .before .before .before .before .args in
     let w = c .before .before .write-digits .ensures in
-    (w .0 ∙ ap (λ (p : ℕ). inked sets (pen (a .out .now) (a .k)) (digitsFrom 10 p (a .x))) (c .before .before .before .before .top .ensures), w .1)
+    (w .0 ∙ ap (λ (p : ℕ). advanced sets (course (a .out .now) (a .k)) (digitsFrom 10 p (a .x))) (c .before .before .before .before .top .ensures), w .1)
 
 pub write-number-spec : {M : Type 1} → statement M
 write-number-spec = tie.close (tie.spec top-requires write-digits-requires same-length returns)

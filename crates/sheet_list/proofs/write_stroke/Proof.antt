@@ -3,7 +3,7 @@ use mathlib.Core.Path.{ap, _∙_}
 use mathlib.Core.List.{List}
 use Prim.Native.Nat.{ℕ}
 use lib.Seq.{sets}
-use Rattle.path.specs.Laid.{pen, inked}
+use Rattle.path.specs.InnerPushes.{course, advanced}
 use Rattle.sheet_list.specs.Listing.{lineOf}
 use Rattle.sheet_list.proofs.Lines.{numbers-are}
 use borrow.Author.Needs.{needs}
@@ -41,7 +41,7 @@ returns : tie.Need-returns
 returns c =
     let a = c .before .before .before .before .before .before .before .before .before .args in
     let w = c .before .before .write-line .ensures in
-    (w .0 ∙ ap (λ (l : List ℕ). inked sets (pen (a .out .now) (a .k)) (lineOf l)) (numbers-are (a .bytes .now) (a .strokes) _ _ _ _ _ (c .before .before .before .before .numbers-from .ensures) (c .before .before .before .before .before .before .start-at .ensures .0) (c .before .before .before .before .before .start-at2 .ensures .0)), w .1)
+    (w .0 ∙ ap (λ (l : List ℕ). advanced sets (course (a .out .now) (a .k)) (lineOf l)) (numbers-are (a .bytes .now) (a .strokes) _ _ _ _ _ (c .before .before .before .before .numbers-from .ensures) (c .before .before .before .before .before .before .start-at .ensures .0) (c .before .before .before .before .before .start-at2 .ensures .0)), w .1)
 
 pub write-stroke-spec : {M : Type 1} → statement M
 write-stroke-spec =

@@ -5,7 +5,7 @@ use native.Mathlib.Omega.{arith}
 use lib.ListN.{length, drop}
 use lib.Seq.{sets}
 use Rattle.path.specs.Strokes.{gather, strokesOf}
-use Rattle.path.specs.Laid.{pen, inked}
+use Rattle.path.specs.InnerPushes.{course, advanced}
 use Rattle.path.proofs.Gathers.{length-gather}
 use Rattle.sheet.specs.Sheets.{headerWords, wordAt}
 use Rattle.sheet_list.specs.Listing.{linesOf, numberIn}
@@ -16,8 +16,8 @@ use Rattle.sheet_list.proofs.write_strokes.Tie as tie
 abbrev Inv-loop : tie.InvT-loop
 Inv-loop bytes strokes points out₀ k i₀ at₀ out i at =
     (i ≤ strokes) × (at ≤ k + i * 0x17_0000_0000) × (length out ≡ length out₀)
-    × (inked sets (pen out at) (linesOf (strokesOf (numberIn bytes strokes) points (drop i (gather (wordAt bytes) headerWords strokes))))
-    ≡ inked sets (pen out₀ k) (linesOf (strokesOf (numberIn bytes strokes) points (gather (wordAt bytes) headerWords strokes))))
+    × (advanced sets (course out at) (linesOf (strokesOf (numberIn bytes strokes) points (drop i (gather (wordAt bytes) headerWords strokes))))
+    ≡ advanced sets (course out₀ k) (linesOf (strokesOf (numberIn bytes strokes) points (gather (wordAt bytes) headerWords strokes))))
 
 abbrev μ-loop : tie.MeasureT-loop
 μ-loop bytes strokes points out₀ k i₀ at₀ out i at = strokes - i

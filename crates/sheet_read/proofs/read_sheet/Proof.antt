@@ -8,8 +8,8 @@ use Rattle.sheet_read.proofs.Calls.{granted, all-read}
 use Rattle.sheet_read.proofs.read_sheet.Statement.{statement}
 use Rattle.sheet_read.proofs.read_sheet.Tie as tie
 
-verdict-requires : tie.Need-verdict-requires
-verdict-requires c κs = search needs
+read-verdict-requires : tie.Need-read-verdict-requires
+read-verdict-requires c κs = search needs
 
 enum-known-v : tie.Need-enum-known-v
 enum-known-v c = search needs
@@ -30,7 +30,7 @@ cast-copy-words : tie.Need-cast-copy-words
 cast-copy-words c = search needs
 
 copy-words-requires : tie.Need-copy-words-requires
-copy-words-requires c κs = let g = granted (c .before .before .before .before .before .before .before .before .before .args .bytes .now) _ _ (sym (c .before .before .before .before .before .verdict .ensures) ∙ c .before .before .before .enum-told .given .1) in
+copy-words-requires c κs = let g = granted (c .before .before .before .before .before .before .before .before .before .args .bytes .now) _ _ (sym (c .before .before .before .before .before .read-verdict .ensures) ∙ c .before .before .before .enum-told .given .1) in
     omega (arith, g .strokes, c .before .before .word-at .ensures)
 
 numbers-from-requires : tie.Need-numbers-from-requires
@@ -38,7 +38,7 @@ numbers-from-requires c κs = search needs
 
 copy-words-requires-2 : tie.Need-copy-words-requires-2
 copy-words-requires-2 c κs =
-    let g = granted (c .before .before .before .before .before .before .before .before .before .before .before .before .before .before .args .bytes .now) _ _ (sym (c .before .before .before .before .before .before .before .before .before .before .verdict .ensures) ∙ c .before .before .before .before .before .before .before .before .enum-told .given .1) in
+    let g = granted (c .before .before .before .before .before .before .before .before .before .before .before .before .before .before .args .bytes .now) _ _ (sym (c .before .before .before .before .before .before .before .before .before .before .read-verdict .ensures) ∙ c .before .before .before .before .before .before .before .before .enum-told .given .1) in
     omega (arith, g .strokes, g .points, c .before .before .before .before .before .before .before .word-at .ensures, c .before .before .before .before .before .before .word-at2 .ensures, c .before .numbers-from .ensures)
 
 word-at-requires-3 : tie.Need-word-at-requires-3
@@ -52,7 +52,7 @@ cast-t13 c = search needs
 
 returns : tie.Need-returns
 unfolding readLeft
-returns c = refuse _ _ _ _ (sym (c .before .v .given .1) ∙ c .before .before .before .verdict .ensures)
+returns c = refuse _ _ _ _ (sym (c .before .v .given .1) ∙ c .before .before .before .read-verdict .ensures)
 
 same-length : tie.Need-same-length
 same-length c = search needs
@@ -64,7 +64,7 @@ returns-2 : tie.Need-returns-2
 unfolding readLeft
 returns-2 c =
     let a = c .before .before .before .before .before .before .before .before .before .before .before .before .before .before .before .before .before .before .before .args in
-    let z = sym (c .before .before .before .before .before .before .before .before .before .before .before .before .before .before .before .verdict .ensures) ∙ c .before .before .before .before .before .before .before .before .before .before .before .before .before .enum-told .given .1 in
+    let z = sym (c .before .before .before .before .before .before .before .before .before .before .before .before .before .before .before .read-verdict .ensures) ∙ c .before .before .before .before .before .before .before .before .before .before .before .before .before .enum-told .given .1 in
     let g = granted (a .bytes .now) _ _ z in
     accept _ _ _ z
     (all-read (a .bytes .now) (a .out-numbers .now) (a .out-starts .now) (g .room-points) (g .room-starts) _ _ _ _ _ (c .before .word-at3 .ensures) (c .word-at4 .ensures) (c .before .before .before .before .before .before .before .before .before .before .before .before .word-at .ensures) (c .before .before .before .before .before .before .before .before .before .before .before .word-at2 .ensures) (c .before .before .before .before .before .before .numbers-from .ensures) _ _ (c .before .before .before .before .copy-words2 .ensures) (c .before .before .before .before .before .before .before .before .before .copy-words .ensures))
@@ -73,7 +73,7 @@ pub read-sheet-spec : {M : Type 1} → statement M
 read-sheet-spec =
     tie.close
     (tie.spec
-    verdict-requires
+    read-verdict-requires
     enum-known-v
     enum-told
     word-at-requires

@@ -12,8 +12,8 @@ use borrow.Author.Needs.{needs}
 use Rattle.sheet_write.proofs.write_sheet.Statement.{statement}
 use Rattle.sheet_write.proofs.write_sheet.Tie as tie
 
-verdict-requires : tie.Need-verdict-requires
-verdict-requires c κs = search needs
+write-verdict-requires : tie.Need-write-verdict-requires
+write-verdict-requires c κs = search needs
 
 enum-known-v : tie.Need-enum-known-v
 enum-known-v c = search needs
@@ -24,12 +24,12 @@ enum-told c = search needs
 write-all-requires : tie.Need-write-all-requires
 write-all-requires c κs =
     let a = c .before .before .before .before .before .before .before .args in
-    let g = granted (a .mode) (a .vertices) (a .numbers .now) (a .starts .now) _ (sym (c .before .before .before .verdict .ensures) ∙ c .before .enum-told .given .1) in
+    let g = granted (a .mode) (a .vertices) (a .numbers .now) (a .starts .now) _ (sym (c .before .before .before .write-verdict .ensures) ∙ c .before .enum-told .given .1) in
     (g .strokes, g .points)
 
 returns : tie.Need-returns
 unfolding writeLeft
-returns c = refuse _ _ _ _ (sym (c .before .v .given .1) ∙ c .before .before .before .verdict .ensures)
+returns c = refuse _ _ _ _ (sym (c .before .v .given .1) ∙ c .before .before .before .write-verdict .ensures)
 
 same-length : tie.Need-same-length
 same-length c = search needs
@@ -38,7 +38,7 @@ returns-2 : tie.Need-returns-2
 unfolding writeLeft
 returns-2 c =
     let a = c .before .before .before .before .before .before .before .before .before .before .args in
-    let z = sym (c .before .before .before .before .before .before .verdict .ensures) ∙ c .before .before .before .before .enum-told .given .1 in
+    let z = sym (c .before .before .before .before .before .before .write-verdict .ensures) ∙ c .before .before .before .before .enum-told .given .1 in
     let g = granted (a .mode) (a .vertices) (a .numbers .now) (a .starts .now) _ z in
     let w = c .before .before .write-all .ensures in
     let s = words-size (modeWord (a .mode)) (a .vertices) (keptFrom (length (a .numbers .now)) (a .starts .now)) (a .numbers .now) in
@@ -49,7 +49,7 @@ pub write-sheet-spec : {M : Type 1} → statement M
 write-sheet-spec =
     tie.close
     (tie.spec
-    verdict-requires
+    write-verdict-requires
     enum-known-v
     enum-told
     write-all-requires

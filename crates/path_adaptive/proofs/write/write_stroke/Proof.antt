@@ -1,6 +1,6 @@
 -- `write_stroke` meets its contract.
-use Rattle.path.proofs.Pushes.{push-none, push-pen}
-use Rattle.path.specs.Laid.{putPoints, out}
+use Rattle.path.proofs.Pushes.{push-none, push-course}
+use Rattle.path.specs.InnerPushes.{putPoints, out}
 use Rattle.path.specs.Strokes.{pointAt}
 use Rattle.path_adaptive.specs.declared.write.Made.{Made}
 use Rattle.path_adaptive.specs.Walk.{shownOf, Walk, one}
@@ -48,7 +48,7 @@ returns-2 c =
     let b = join-both (one (at (a .a))) _ _ w (s .pre .0 .calm) in
     let m = c .before .before .before .write-adapted .ensures in
     let r = c .made-of .ensures in
-    (rw (r, c .before .before .before .before .before .before .before .put-number .ensures) (push-pen putPoints (out (a .out-points .now) (a .out-starts .now) (a .w .place)) _ (omega (arith, b .length-is)) _ _ (m .ink)), ap (λ (x : Made). x .halvings) r ∙ m .count)
+    (rw (r, c .before .before .before .before .before .before .before .put-number .ensures) (push-course putPoints (out (a .out-points .now) (a .out-starts .now) (a .w .place)) _ (omega (arith, b .length-is)) _ _ (m .ink)), ap (λ (x : Made). x .halvings) r ∙ m .count)
 
 pub write-stroke-spec : {M : Type 1} → statement M
 write-stroke-spec =

@@ -2,7 +2,7 @@
 -- them ends too deep, and their halvings and those made are all; the strokes that are left fall.
 use borrow.Author.Needs.{needs}
 use Rattle.path.proofs.Pushes.{push-turn, push-end, push-room, push-starts}
-use Rattle.path.specs.Laid.{putPoints, out, pushAll}
+use Rattle.path.specs.InnerPushes.{putPoints, out, pushAll}
 use Rattle.path_adaptive.specs.declared.write.Made.{Made}
 use Rattle.path_adaptive.proofs.Tallies.{walks-more, walks-none, more-points, more-calm, more-halvings}
 use Rattle.path_adaptive.specs.Walk.{walksOf, adapted, halvingsOf, Calm}
