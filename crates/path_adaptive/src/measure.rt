@@ -151,7 +151,7 @@ fn measure_stroke(view: View, points: &[f64], a: usize, e: usize, t: Tally) -> T
 }
 
 // What all strokes meet.
-pub fn measure_strokes(view: View, points: &[f64], starts: &[u32], t: Tally) -> Tally
+pub(crate) fn measure_strokes(view: View, points: &[f64], starts: &[u32], t: Tally) -> Tally
     requires { ⌜ pointsOf t ≤ mostPoints ⌝ }
     ensures { λ r. ⌜ r ≡ spentAll t (walksOf view (now (points .entry)) (now (starts .entry))) ⌝ }
 {

@@ -7,7 +7,7 @@ ghost use mathlib.Core.Path.{_≡_};
 ghost use Rattle.path_adaptive.specs.Walk.{viewOf, shownOf, middleOf, bothBelow, bothAbove, outsideOf, endsOf};
 
 // The screen of a call, with the step squared.
-pub fn view_of(matrix: Matrix, width: f64, height: f64, step: f64, tolerance: f64) -> View
+pub(crate) fn view_of(matrix: Matrix, width: f64, height: f64, step: f64, tolerance: f64) -> View
     ensures { λ r. ⌜ r ≡ viewOf matrix width height step tolerance ⌝ }
 {
     View {
@@ -20,7 +20,7 @@ pub fn view_of(matrix: Matrix, width: f64, height: f64, step: f64, tolerance: f6
 }
 
 // A point with its place on the screen.
-pub fn show(view: View, v: Vector) -> Shown
+pub(crate) fn show(view: View, v: Vector) -> Shown
     ensures { λ r. ⌜ r ≡ shownOf view v ⌝ }
 {
     let m = view.matrix;
@@ -29,7 +29,7 @@ pub fn show(view: View, v: Vector) -> Shown
 }
 
 // The middle of two points.
-pub fn divider(view: View, a: Shown, b: Shown) -> Shown
+pub(crate) fn divider(view: View, a: Shown, b: Shown) -> Shown
     ensures { λ r. ⌜ r ≡ middleOf view a b ⌝ }
 {
     let p = a.here;
@@ -74,7 +74,7 @@ fn outside(view: View, a: Vector, b: Vector) -> bool
 }
 
 // Whether a span is not halved.
-pub fn terminator(view: View, a: Shown, b: Shown) -> bool
+pub(crate) fn terminator(view: View, a: Shown, b: Shown) -> bool
     ensures { λ r. ⌜ r ≡ endsOf view a b ⌝ }
 {
     let s = a.seen;

@@ -160,7 +160,7 @@ fn made_of(m: Mark, starts: usize) -> Made
 }
 
 // Writes every stroke.
-pub fn write_strokes(
+pub(crate) fn write_strokes(
     view: View,
     points: &[f64],
     starts: &[u32],
