@@ -29,9 +29,9 @@ struct Mark {
 }
 
 // Where the next point and the next start go, and how many halvings were made so far.
-pub struct Made {
-    pub place: Place,
-    pub halvings: usize,
+pub(crate) struct Made {
+    pub(crate) place: Place,
+    pub(crate) halvings: usize,
 }
 
 // Writes a point.

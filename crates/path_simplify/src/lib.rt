@@ -45,37 +45,37 @@ pub enum Simplified {
 const NOTES: usize = MOST_TO_SIMPLIFY + 2;
 
 // The farthest point so far: its place, and how far it is.
-pub struct Far {
-    pub at: usize,
-    pub far: f64,
+struct Far {
+    at: usize,
+    far: f64,
 }
 
 // Where the next point goes, and how many distances were measured.
-pub struct Kept {
-    pub points: usize,
-    pub distances: usize,
+struct Kept {
+    points: usize,
+    distances: usize,
 }
 
 // Where the next point and the next start go, and how many distances were measured.
-pub struct Progress {
-    pub points: usize,
-    pub starts: usize,
-    pub distances: usize,
+struct Progress {
+    points: usize,
+    starts: usize,
+    distances: usize,
 }
 
 // The farthest point of a scan so far: its place, and the square of how far it is.
-pub struct Best {
-    pub at: usize,
-    pub square: f64,
+struct Best {
+    at: usize,
+    square: f64,
 }
 
 // The last three points of a scan whose squares were above all before them, the latest first. Where the root of the latest is
 // level with an earlier one's, that one is the farthest; it is one of these, since four squares, each below the next, never have
 // one root.
-pub struct Records {
-    pub first: Best,
-    pub second: Best,
-    pub third: Best,
+struct Records {
+    first: Best,
+    second: Best,
+    third: Best,
 }
 
 // The square of the distance of p from the segment from v to w: segment_distance before its root, as the source tests it.

@@ -23,7 +23,7 @@ use Rattle.path_splice_links.specs.Walk.{Woven}
 use Rattle.path_splice.proofs.Answers.{out-points, out-starts, laid-out, wrote}
 use Rattle.path_splice.specs.Call.{left}
 use Rattle.path_splice.specs.InnerText.{textOf, marksOf, ReadOut, Filled}
-use Rattle.path_splice.specs.InnerPairs.{pairsOf, Paired, Drawn, fits, pairsLeft}
+use Rattle.path_splice.specs.InnerPairs.{pairsOf, Paired, PairsDrawn, fits, pairsLeft}
 use Rattle.refusal.specs.Limits.{mostStrokes, mostPoints}
 
 -- a, a + 2, .. (n of them)
@@ -226,7 +226,7 @@ module _ (s₀ : List ℕ) (n c : ℕ) (H : 8 * n ≤ length s₀) (low : n ≤ 
       ∙ into2-region (6 * n) n (7 * n) n (off-words n) s₀ s1 (Paired n) I (8 * n) k (inl (omega arith)) (inl (omega arith)) (omega arith) ∙ w s₀ refl
 
   pub gives : (op os op′ os′ : List ℕ) (p q : ℕ) → 2 * n ≤ length op → n ≤ length os
-      → ReadOut (strokesIn (take (2 * n) s2) (region s2 (7 * n) (8 * n - 7 * n))) (region s2 (2 * n) (2 * n + c - 2 * n)) op os op′ os′ p q → Drawn s₀ s2 n op os op′ os′ p q
+      → ReadOut (strokesIn (take (2 * n) s2) (region s2 (7 * n) (8 * n - 7 * n))) (region s2 (2 * n) (2 * n + c - 2 * n)) op os op′ os′ p q → PairsDrawn s₀ s2 n op os op′ os′ p q
   gives op os op′ os′ p q a b Q =
       let Q1 : ReadOut (strokesIn P U) (region s2 (2 * length U) c) op os op′ os′ p q = rw (p-is, s-is, o-is) at Q in
       let L = laid-out P U good s1 s2 c full woven c refl op os op′ os′ p q (omega (arith, long-p)) (omega (arith, I .size2)) Q1 in
@@ -253,7 +253,7 @@ module _ (s op os : List ℕ) (n : ℕ) where
   unfolding pairsLeft
   pairs-no h = rw h
 
-  pub pairs-yes : fits n (length s) (length op) (length os) ≡ true → (s′ s1 op′ os′ : List ℕ) (p q : ℕ) → s′ ≡ over s (replicate (8 * n) 0) → Drawn s s1 n op os op′ os′ p q
+  pub pairs-yes : fits n (length s) (length op) (length os) ≡ true → (s′ s1 op′ os′ : List ℕ) (p q : ℕ) → s′ ≡ over s (replicate (8 * n) 0) → PairsDrawn s s1 n op os op′ os′ p q
       → left (accepted (p ∷ q ∷ [])) s′ op′ os′ ≡ pairsLeft s n op os
   unfolding pairsLeft
   pairs-yes h s′ s1 op′ os′ p q e D = rw h (wrote (splice 0 eqb (pairsOf (take (2 * n) s))) (over s (replicate (8 * n) 0)) s′ op os op′ os′ p q e (D .out))

@@ -34,6 +34,6 @@ pub record Paired (n : ℕ) (todo starts : List ℕ) : Type 0 where
   pub begins : (i : ℕ) → i < n → getD starts i 0 ≡ 2 * i
 
 -- what is written of the first 2 n words, and all from 8 n on as it was
-pub record Drawn (s s′ : List ℕ) (n : ℕ) (op os op′ os′ : List ℕ) (p q : ℕ) : Type 0 where
+pub record PairsDrawn (s s′ : List ℕ) (n : ℕ) (op os op′ os′ : List ℕ) (p q : ℕ) : Type 0 where
   pub out : LaidOut (splice 0 eqb (pairsOf (take (2 * n) s))) op os op′ os′ p q
   pub rest : drop (8 * n) s′ ≡ drop (8 * n) s

@@ -20,7 +20,7 @@ ghost use Rattle.order.specs.Regions.{region, put, Into2};
 ghost use Rattle.path.specs.Strokes.{goodStarts, strokesIn};
 ghost use Rattle.path_splice_rule.specs.Splice.{valueAt, present, splice as spliceOf};
 ghost use Rattle.path_splice.specs.InnerText.{Spans, part, mark, textOf, marksOf, ReadOut, Filled, LaidOut};
-ghost use Rattle.path_splice.specs.InnerPairs.{Paired, Drawn, fits as fitsOf, pairsLeft};
+ghost use Rattle.path_splice.specs.InnerPairs.{Paired, PairsDrawn, fits as fitsOf, pairsLeft};
 ghost use Rattle.path_splice.specs.Call.{verdictOf, said, left, spliceLeft};
 ghost use Rattle.refusal.specs.Limits.{mostStrokes, mostPoints};
 
@@ -309,7 +309,7 @@ fn fill_pairs(s: &mut [u32], n: usize)
 // Writes the spliced strokes of the first 2 n words.
 fn draw_pairs(s: &mut [u32], n: usize, out_points: &mut [u32], out_starts: &mut [u32]) -> Place
     requires { ⌜ (8 * n ≤ length (now s)) × (n ≤ mostStrokes) × (2 * n ≤ length (now «out_points»)) × (n ≤ length (now «out_starts»)) ⌝ }
-    ensures { λ r. ⌜ Drawn (now (s .entry)) (now (s .exit)) n (now («out_points» .entry)) (now («out_starts» .entry))
+    ensures { λ r. ⌜ PairsDrawn (now (s .entry)) (now (s .exit)) n (now («out_points» .entry)) (now («out_starts» .entry))
         (now («out_points» .exit)) (now («out_starts» .exit)) (r .points) (r .starts) ⌝ }
 {
     fill_pairs(s, n);
