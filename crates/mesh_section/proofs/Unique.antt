@@ -4,10 +4,9 @@ use mathlib.Core.List.{List}
 use Prim.Native.Nat.{ℕ}
 use lib.Ieee.{Float}
 use Rattle.refusal.specs.One.{One}
-use Rattle.refusal.specs.Outcome.{leaves}
 use Rattle.refusal.proofs.Unique.{one-refusal, never-both, same-values}
-use Rattle.refusal.proofs.Outcomes.{one-outcome}
-use Rattle.path.specs.Call.{Lent}
+use Rattle.path.specs.Call.{left}
+use Rattle.path.proofs.Calls.{one-left}
 use Rattle.mesh_section.specs.declared.Plane.{Plane}
 use Rattle.mesh_section.specs.declared.Sectioned.{Sectioned}
 use Rattle.mesh_section.specs.declared.Sectioned.the-variants.{Wrote, Refused}
@@ -20,5 +19,5 @@ told (Refused r) (Wrote q u) e = absurd (never-both _ r (sym e))
 told (Refused r) (Refused t) e = ap Refused (one-refusal r t e)
 
 pub one-section : (vs : List Float) (is : List ℕ) (p : Plane) (tolerance : Float) (op : List Float) (os : List ℕ)
-    → One (Sectioned × Lent) (λ o. leaves (said (o .0)) (o .1) ≡ sectionLeft vs is p tolerance op os)
-one-section vs is p tolerance op os = one-outcome said told (sectionLeft vs is p tolerance op os)
+    → One (Sectioned × List Float × List ℕ) (λ o. left (said (o .0)) (o .1) (o .2) ≡ sectionLeft vs is p tolerance op os)
+one-section vs is p tolerance op os = one-left said told (sectionLeft vs is p tolerance op os)

@@ -4,12 +4,11 @@ use mathlib.Core.List.{List}
 use Prim.Native.Nat.{ℕ}
 use lib.Ieee.{Float}
 use Rattle.refusal.specs.One.{One}
-use Rattle.refusal.specs.Outcome.{leaves}
 use Rattle.refusal.proofs.Unique.{one-refusal, never-both, same-values}
 use Rattle.refusal.proofs.Outcomes.{one-outcome}
 use Rattle.mesh_weld.specs.declared.Welded.{Welded}
 use Rattle.mesh_weld.specs.declared.Welded.the-variants.{Wrote, Refused}
-use Rattle.mesh_weld.specs.Call.{said, Lent, weldLeft}
+use Rattle.mesh_weld.specs.Call.{said, lent, left, weldLeft}
 
 told : (r t : Welded) → said r ≡ said t → r ≡ t
 told (Wrote v i) (Wrote w j) e = let h = same-values e in cc
@@ -17,5 +16,8 @@ told (Wrote v i) (Refused t) e = absurd (never-both _ t e)
 told (Refused r) (Wrote w j) e = absurd (never-both _ r (sym e))
 told (Refused r) (Refused t) e = ap Refused (one-refusal r t e)
 
-pub one-weld : (cs : List Float) (s : List ℕ) (vs : List Float) (is : List ℕ) → One (Welded × Lent) (λ o. leaves (said (o .0)) (o .1) ≡ weldLeft cs s vs is)
-one-weld cs s vs is = one-outcome said told (weldLeft cs s vs is)
+pub one-weld : (cs : List Float) (s : List ℕ) (vs : List Float) (is : List ℕ)
+    → One (Welded × List ℕ × List Float × List ℕ) (λ o. left (said (o .0)) (o .1) (o .2) (o .3) ≡ weldLeft cs s vs is)
+one-weld cs s vs is r t p q =
+    let e = one-outcome said told (weldLeft cs s vs is) (r .0, lent (r .1) (r .2) (r .3)) (t .0, lent (t .1) (t .2) (t .3)) p q in
+    λ i. (e i .0, e i .1 .scratch, e i .1 .vertices, e i .1 .indices)

@@ -4,11 +4,10 @@ use mathlib.Core.List.{List}
 use Prim.Native.Nat.{ℕ}
 use lib.Ieee.{Float}
 use Rattle.refusal.specs.One.{One}
-use Rattle.refusal.specs.Outcome.{leaves}
 use Rattle.refusal.proofs.Unique.{one-refusal, never-both, same-values}
-use Rattle.refusal.proofs.Outcomes.{one-outcome}
 use Rattle.vector.specs.declared.matrix.Matrix.{Matrix}
-use Rattle.path.specs.Call.{Lent}
+use Rattle.path.specs.Call.{left}
+use Rattle.path.proofs.Calls.{one-left}
 use Rattle.path_adaptive.specs.declared.Adapted.{Adapted}
 use Rattle.path_adaptive.specs.declared.Adapted.the-variants as A
 use Rattle.path_adaptive.specs.Call.{said, adaptiveLeft}
@@ -20,5 +19,5 @@ adapted-told (A.Refused r) (A.Wrote q u e) h = absurd (never-both _ r (sym h))
 adapted-told (A.Refused r) (A.Refused t) h = ap A.Refused (one-refusal r t h)
 
 pub one-chop-adaptive : (ps : List Float) (ss : List ℕ) (m : Matrix) (width height step tolerance : Float) (op : List Float) (os : List ℕ)
-    → One (Adapted × Lent) (λ o. leaves (said (o .0)) (o .1) ≡ adaptiveLeft ps ss m width height step tolerance op os)
-one-chop-adaptive ps ss m width height step tolerance op os = one-outcome said adapted-told (adaptiveLeft ps ss m width height step tolerance op os)
+    → One (Adapted × List Float × List ℕ) (λ o. left (said (o .0)) (o .1) (o .2) ≡ adaptiveLeft ps ss m width height step tolerance op os)
+one-chop-adaptive ps ss m width height step tolerance op os = one-left said adapted-told (adaptiveLeft ps ss m width height step tolerance op os)

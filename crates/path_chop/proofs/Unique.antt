@@ -4,10 +4,9 @@ use mathlib.Core.List.{List}
 use Prim.Native.Nat.{ℕ}
 use lib.Ieee.{Float}
 use Rattle.refusal.specs.One.{One}
-use Rattle.refusal.specs.Outcome.{leaves}
 use Rattle.refusal.proofs.Unique.{one-refusal, never-both, same-values}
-use Rattle.refusal.proofs.Outcomes.{one-outcome}
-use Rattle.path.specs.Call.{Lent}
+use Rattle.path.specs.Call.{left}
+use Rattle.path.proofs.Calls.{one-left}
 use Rattle.path_chop.specs.declared.Chopped.{Chopped}
 use Rattle.path_chop.specs.declared.Chopped.the-variants as C
 use Rattle.path_chop.specs.Call.{said, chopLeft}
@@ -19,5 +18,5 @@ chopped-told (C.Refused r) (C.Wrote q u) e = absurd (never-both _ r (sym e))
 chopped-told (C.Refused r) (C.Refused t) e = ap C.Refused (one-refusal r t e)
 
 pub one-chop : (ps : List Float) (ss : List ℕ) (step : Float) (op : List Float) (os : List ℕ)
-    → One (Chopped × Lent) (λ o. leaves (said (o .0)) (o .1) ≡ chopLeft ps ss step op os)
-one-chop ps ss step op os = one-outcome said chopped-told (chopLeft ps ss step op os)
+    → One (Chopped × List Float × List ℕ) (λ o. left (said (o .0)) (o .1) (o .2) ≡ chopLeft ps ss step op os)
+one-chop ps ss step op os = one-left said chopped-told (chopLeft ps ss step op os)

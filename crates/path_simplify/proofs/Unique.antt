@@ -4,10 +4,9 @@ use mathlib.Core.List.{List}
 use Prim.Native.Nat.{ℕ}
 use lib.Ieee.{Float}
 use Rattle.refusal.specs.One.{One}
-use Rattle.refusal.specs.Outcome.{leaves}
 use Rattle.refusal.proofs.Unique.{one-refusal, never-both, same-values}
-use Rattle.refusal.proofs.Outcomes.{one-outcome}
-use Rattle.path.specs.Call.{Lent}
+use Rattle.path.specs.Call.{left}
+use Rattle.path.proofs.Calls.{one-left}
 use Rattle.path_simplify.specs.declared.Simplified.{Simplified}
 use Rattle.path_simplify.specs.declared.Simplified.the-variants as S
 use Rattle.path_simplify.specs.Call.{said, simplifyLeft}
@@ -19,5 +18,5 @@ simplified-told (S.Refused r) (S.Wrote q u e) h = absurd (never-both _ r (sym h)
 simplified-told (S.Refused r) (S.Refused t) h = ap S.Refused (one-refusal r t h)
 
 pub one-simplify : (ps : List Float) (ss : List ℕ) (threshold : Float) (op : List Float) (os : List ℕ)
-    → One (Simplified × Lent) (λ o. leaves (said (o .0)) (o .1) ≡ simplifyLeft ps ss threshold op os)
-one-simplify ps ss threshold op os = one-outcome said simplified-told (simplifyLeft ps ss threshold op os)
+    → One (Simplified × List Float × List ℕ) (λ o. left (said (o .0)) (o .1) (o .2) ≡ simplifyLeft ps ss threshold op os)
+one-simplify ps ss threshold op os = one-left said simplified-told (simplifyLeft ps ss threshold op os)

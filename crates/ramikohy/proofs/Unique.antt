@@ -8,6 +8,12 @@ use lib.Ieee.{Float}
 use Rattle.refusal.specs.One.{One}
 use Rattle.refusal.proofs.Unique.{one-read}
 use Rattle.vector.specs.declared.Vector.{Vector}
+use Rattle.path.specs.Call as P
+use Rattle.path_splice.specs.Call as S
+use Rattle.mesh_weld.specs.Call as W
+use Rattle.mesh_strokes.specs.Call as D
+use Rattle.sheet_write.specs.Call as O
+use Rattle.sheet_read.specs.Call as R
 use Rattle.ramikohy.specs.Points.{pointOf}
 use Rattle.ramikohy.specs.Status.{Valued, valued}
 use Rattle.ramikohy.specs.Calls.{Called, called}
@@ -47,5 +53,34 @@ pub one-value : {A : Type 0} (x : Valued A) → One (ℕ × A) (λ o. valued (o 
 one-value = one-read (λ o. valued (o .0) (o .1)) (λ r t e i. (e i .status, e i .value))
 
 -- every call on lent lists: a status, counts, and what is lent
-pub one-called : {L : Type 0} (x : Called L) → One (ℕ × List ℕ × L) (λ o. called (o .0) (o .1) (o .2) ≡ x)
+one-called : {L : Type 0} (x : Called L) → One (ℕ × List ℕ × L) (λ o. called (o .0) (o .1) (o .2) ≡ x)
 one-called = one-read (λ o. called (o .0) (o .1) (o .2)) (λ r t e i. (e i .status, e i .counts, e i .lent))
+
+-- chop, chop_adaptive, simplify, section
+pub one-strokes : (x : Called P.Lent) → One (ℕ × List ℕ × List Float × List ℕ) (λ o. called (o .0) (o .1) (P.lent (o .2) (o .3)) ≡ x)
+one-strokes x r t p q =
+    let e = one-called x (r .0, r .1, P.lent (r .2) (r .3)) (t .0, t .1, P.lent (t .2) (t .3)) p q in
+    λ i. (e i .0, e i .1, e i .2 .points, e i .2 .starts)
+
+pub one-splice : (x : Called S.Lent) → One (ℕ × List ℕ × List ℕ × List ℕ × List ℕ) (λ o. called (o .0) (o .1) (S.lent (o .2) (o .3) (o .4)) ≡ x)
+one-splice x r t p q =
+    let e = one-called x (r .0, r .1, S.lent (r .2) (r .3) (r .4)) (t .0, t .1, S.lent (t .2) (t .3) (t .4)) p q in
+    λ i. (e i .0, e i .1, e i .2 .scratch, e i .2 .points, e i .2 .starts)
+
+pub one-weld : (x : Called W.Lent) → One (ℕ × List ℕ × List ℕ × List Float × List ℕ) (λ o. called (o .0) (o .1) (W.lent (o .2) (o .3) (o .4)) ≡ x)
+one-weld x r t p q =
+    let e = one-called x (r .0, r .1, W.lent (r .2) (r .3) (r .4)) (t .0, t .1, W.lent (t .2) (t .3) (t .4)) p q in
+    λ i. (e i .0, e i .1, e i .2 .scratch, e i .2 .vertices, e i .2 .indices)
+
+pub one-draw : (x : Called D.Lent) → One (ℕ × List ℕ × List ℕ × List Float × List ℕ × List ℕ) (λ o. called (o .0) (o .1) (D.lent (o .2) (o .3) (o .4) (o .5)) ≡ x)
+one-draw x r t p q =
+    let e = one-called x (r .0, r .1, D.lent (r .2) (r .3) (r .4) (r .5)) (t .0, t .1, D.lent (t .2) (t .3) (t .4) (t .5)) p q in
+    λ i. (e i .0, e i .1, e i .2 .words, e i .2 .seen, e i .2 .points, e i .2 .starts)
+
+pub one-writing : (x : Called O.Lent) → One (ℕ × List ℕ × List ℕ) (λ o. called (o .0) (o .1) (O.lent (o .2)) ≡ x)
+one-writing x r t p q = let e = one-called x (r .0, r .1, O.lent (r .2)) (t .0, t .1, O.lent (t .2)) p q in λ i. (e i .0, e i .1, e i .2 .bytes)
+
+pub one-reading : (x : Called R.Lent) → One (ℕ × List ℕ × List ℕ × List ℕ) (λ o. called (o .0) (o .1) (R.lent (o .2) (o .3)) ≡ x)
+one-reading x r t p q =
+    let e = one-called x (r .0, r .1, R.lent (r .2) (r .3)) (t .0, t .1, R.lent (t .2) (t .3)) p q in
+    λ i. (e i .0, e i .1, e i .2 .numbers, e i .2 .starts)

@@ -1,4 +1,4 @@
-//! Corners made for the table of a weld (crates/mesh_weld/specs/Table): coarse cells that share a bucket, and cells whose way
+//! Corners made for the table of a weld (crates/mesh_weld/specs/InnerTable): coarse cells that share a bucket, and cells whose way
 //! through the tree of their bucket is long.
 
 use crate::random::Random;
