@@ -30,7 +30,7 @@ round-same f s a b c d B D h =
     ∙ sym (round-is f s c d)
 
 -- the cell of a finite coordinate
-side-is : side ≡ fin false 4722366482869645 (negsuc 71)
+pub side-is : side ≡ fin false 4722366482869645 (negsuc 71)
 unfolding ofBits ofFields odd
 side-is = refl
 

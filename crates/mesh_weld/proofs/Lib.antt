@@ -6,6 +6,7 @@ pub mod Places
 pub mod Loop
 pub mod Ranks
 pub mod Equals
+pub mod Differences
 pub mod Coarse
 pub mod Calls
 pub mod Cases

@@ -16,8 +16,8 @@ use lib.Ieee.{Float, nan}
 use Rattle.vector.specs.declared.Vector.{Vector}
 use Rattle.mesh_weld.specs.declared.Found.{Found}
 use Rattle.mesh_weld.specs.declared.Found.the-variants.{At, Nothing}
-use Rattle.mesh_weld.specs.Weld.{cell, inCell, near, findIn, three, find, Welded, joinAs, join, weldTo, weldOf}
-use Rattle.mesh_weld.specs.InnerTable.{coarseAt, Table, grown, numberOf, moreOf, Placed}
+use Rattle.mesh_weld.specs.Weld.{cell, inCell, near, findIn, three, find, Merged, joinAs, join, weldTo, weldOf}
+use Rattle.mesh_weld.specs.InnerTable.{coarseAt, Table, grown, cornerNumber, moreOf, Placed}
 use Rattle.mesh_weld.proofs.Finds.{oldest-cong}
 
 -- a search reads no more than the k vertices
@@ -104,16 +104,16 @@ module _ (cs vs₀ : List Float) (is₀ : List ℕ) (m i k : ℕ) (s : List ℕ)
   next-is = rw (add-one, same-find)
 
   module _ (s′ : List ℕ) (vs′ : List Float) (is′ : List ℕ) (r : ℕ) (q : Placed vs is m k i (pointAt cs i) s′ vs′ is′ r) where
-    abbrev w : Welded
+    abbrev w : Merged
     w = weldTo cs i
 
-    go : (f : Found) → weldTo cs (i + 1) ≡ joinAs w (pointAt cs i) f → vs′ ≡ grown vs k (pointAt cs i) f → is′ ≡ set is i (numberOf k f) → r ≡ moreOf k f
+    go : (f : Found) → weldTo cs (i + 1) ≡ joinAs w (pointAt cs i) f → vs′ ≡ grown vs k (pointAt cs i) f → is′ ≡ set is i (cornerNumber k f) → r ≡ moreOf k f
         → Built cs vs₀ is₀ m (i + 1) s′ vs′ is′ r
     unfolding joinAs putPoint
     go (At v) e ev ei er =
-        let ec : weldTo cs (i + 1) .count ≡ w .count = ap (λ (x : Welded). x .count) e in
-        let ex : weldTo cs (i + 1) .vertices ≡ w .vertices = ap (λ (x : Welded). x .vertices) e in
-        let en : weldTo cs (i + 1) .indices ≡ w .indices ++ v ∷ [] = ap (λ (x : Welded). x .indices) e in
+        let ec : weldTo cs (i + 1) .count ≡ w .count = ap (λ (x : Merged). x .count) e in
+        let ex : weldTo cs (i + 1) .vertices ≡ w .vertices = ap (λ (x : Merged). x .vertices) e in
+        let en : weldTo cs (i + 1) .indices ≡ w .indices ++ v ∷ [] = ap (λ (x : Merged). x .indices) e in
         record {
           count = er ∙ b .count ∙ sym ec;
           few = omega (arith, b .few);
@@ -125,9 +125,9 @@ module _ (cs vs₀ : List Float) (is₀ : List ℕ) (m i k : ℕ) (s : List ℕ)
         }
     go Nothing e ev ei er =
         let p = pointAt cs i in
-        let ec : weldTo cs (i + 1) .count ≡ w .count + 1 = ap (λ (x : Welded). x .count) e in
-        let ex : weldTo cs (i + 1) .vertices ≡ w .vertices ++ p .x ∷ p .y ∷ p .z ∷ [] = ap (λ (x : Welded). x .vertices) e in
-        let en : weldTo cs (i + 1) .indices ≡ w .indices ++ w .count ∷ [] = ap (λ (x : Welded). x .indices) e in
+        let ec : weldTo cs (i + 1) .count ≡ w .count + 1 = ap (λ (x : Merged). x .count) e in
+        let ex : weldTo cs (i + 1) .vertices ≡ w .vertices ++ p .x ∷ p .y ∷ p .z ∷ [] = ap (λ (x : Merged). x .vertices) e in
+        let en : weldTo cs (i + 1) .indices ≡ w .indices ++ w .count ∷ [] = ap (λ (x : Merged). x .indices) e in
         let lx : length (weldTo cs (i + 1) .vertices) ≡ length (w .vertices) + 3 = ap length ex ∙ length-append (w .vertices) (p .x ∷ p .y ∷ p .z ∷ []) in
         record {
           count = er ∙ ap (λ (n : ℕ). n + 1) (b .count) ∙ sym ec;

@@ -2,7 +2,7 @@
 use mathlib.Core.Path.{_≡_, refl, sym, ap, _∙_, subst}
 use mathlib.Core.Bool.{Bool, true, false, cond}
 use mathlib.Core.List.{List, [], _∷_, map}
-use Prim.Native.Nat.{ℕ, zero, suc, _+_, _-_, _*_, _≤_, _<_}
+use Prim.Native.Nat.{ℕ, zero, suc, _+_, _-_, _*_, _/_, _%_, _≤_, _<_}
 use native.Mathlib.Omega.{arith}
 use lib.ListN.{getD}
 use lib.Dec.{eqb, ltb}
@@ -11,11 +11,12 @@ use Rattle.refusal.specs.Each.{Each}
 use lib.Ieee.{Float}
 use Rattle.mesh_weld.specs.declared.Cube.{Cube}
 use Rattle.mesh_weld.specs.declared.Way.{Way}
+use Rattle.mesh_weld.specs.declared.Ways.{Ways}
 use Rattle.vector.specs.declared.Vector.{Vector}
 use Rattle.path.specs.Strokes.{pointAt}
 use Rattle.mesh_weld.specs.Weld.{near}
 use Rattle.mesh_weld.proofs.Coarse.{Among, here, after}
-use Rattle.mesh_weld.specs.InnerTable.{coarseAt, bucketOf, turnedOf, linkOf, On, Ends, Older, Table, wayAt, wayOf, onwardOf, lesserOf, worthOf, allWorth, closeOf, allClose, nexts, NoMore, Least, top, rankOf, scoreOf, scoreAt}
+use Rattle.mesh_weld.specs.InnerTable.{coarseAt, bucketOf, turnedOf, linkOf, On, Ends, Older, Table, wayAt, wayOf, onwardOf, lesserOf, worthOf, allWorth, closeOf, allClose, listed, nexts, NoMore, Least, top, rankOf, scoreOf, scoreAt}
 
 -- a link is a slot further on than the vertex's own, and one of the table's
 module _ (s : List ℕ) (m k at next : ℕ) (o : Older s m k) (e : next ≡ getD s at 0) (some : next ≡ 0 → ⊥) where
@@ -53,6 +54,13 @@ module _ (a b : ℕ) where
       go true t = one (ltb-true a b t) refl
       go false t = other (ltb-false a b t) refl
 
+  pub lesser-most : lesserOf a b ≤ b
+  lesser-most = go (lesserOf a b) lesser
+    where
+      go : (r : ℕ) → Lesser r → r ≤ b
+      go r (one l e) = omega arith
+      go r (other l e) = omega arith
+
 -- what the code does by its tests
 module _ (s : List ℕ) (m : ℕ) (w : Way) where
   pub on-ended : w .next ≡ 0 → w ≡ onwardOf s m w
@@ -81,9 +89,41 @@ module _ (vs : List Float) (p : Vector) (w : Way) where
   unfolding closeOf
   close-met some t e = rw (ne-eqb (w .next) 0 some, e)
 
+  pub close-most : closeOf vs p w ≤ 1
+  unfolding closeOf
+  close-most = go (eqb (w .next) 0) (near p (pointAt vs (w .next - 1)))
+    where
+      go : (t u : Bool) → cond t 0 (cond u 1 0) ≤ 1
+      go true u = omega arith
+      go false true = omega arith
+      go false false = omega arith
+
+  -- a way that is close is at a vertex that is near
+  pub close-some : (closeOf vs p w ≡ 0 → ⊥) → (0 < w .next) × (near p (pointAt vs (w .next - 1)) ≡ true)
+  unfolding closeOf
+  close-some h = go (eqb (w .next) 0) refl (near p (pointAt vs (w .next - 1))) refl h
+    where
+      go : (t : Bool) → eqb (w .next) 0 ≡ t → (u : Bool) → near p (pointAt vs (w .next - 1)) ≡ u → (_≡_ {A = ℕ} (cond t 0 (cond u 1 0)) 0 → ⊥) → (0 < w .next) × (near p (pointAt vs (w .next - 1)) ≡ true)
+      go true t u e h = absurd (h refl)
+      go false t true e h = let n = eqb-false (w .next) 0 t in (omega arith, e)
+      go false t false e h = absurd (h refl)
+
+-- the bits of eight ways, taken apart
+module _ (n a b c d e f g h : ℕ) (s : n ≡ a + 2 * (b + 2 * (c + 2 * (d + 2 * (e + 2 * (f + 2 * (g + 2 * (h + 0))))))))
+    (ka : a ≤ 1) (kb : b ≤ 1) (kc : c ≤ 1) (kd : d ≤ 1) (ke : e ≤ 1) (kf : f ≤ 1) (kg : g ≤ 1) (kh : h ≤ 1) where
+  bits : (n % 2 ≡ a) × (n / 2 % 2 ≡ b) × (n / 4 % 2 ≡ c) × (n / 8 % 2 ≡ d) × (n / 16 % 2 ≡ e) × (n / 32 % 2 ≡ f) × (n / 64 % 2 ≡ g) × (n / 128 % 2 ≡ h)
+  bits = (omega arith, omega arith, omega arith, omega arith, omega arith, omega arith, omega arith, omega arith)
+
+pub way-bits : (vs : List Float) (p : Vector) (w : Ways) (n : ℕ) → n ≡ allClose vs p (listed w)
+    → (n % 2 ≡ closeOf vs p (w .a)) × (n / 2 % 2 ≡ closeOf vs p (w .b)) × (n / 4 % 2 ≡ closeOf vs p (w .c)) × (n / 8 % 2 ≡ closeOf vs p (w .d))
+    × (n / 16 % 2 ≡ closeOf vs p (w .e)) × (n / 32 % 2 ≡ closeOf vs p (w .f)) × (n / 64 % 2 ≡ closeOf vs p (w .g)) × (n / 128 % 2 ≡ closeOf vs p (w .h))
+way-bits vs p w n s =
+    bits n (closeOf vs p (w .a)) (closeOf vs p (w .b)) (closeOf vs p (w .c)) (closeOf vs p (w .d)) (closeOf vs p (w .e)) (closeOf vs p (w .f)) (closeOf vs p (w .g)) (closeOf vs p (w .h)) s
+    (close-most vs p (w .a)) (close-most vs p (w .b)) (close-most vs p (w .c)) (close-most vs p (w .d)) (close-most vs p (w .e)) (close-most vs p (w .f)) (close-most vs p (w .g)) (close-most vs p (w .h))
+
 -- where no vertex ahead is near, the least stays
 module _ (vs : List Float) (p : Vector) (c : Cube) (best : ℕ) (l : best ≤ top) where
-  far-one : (w : Way) → closeOf vs p w ≡ 0 → worthOf (scoreAt vs p c) best w ≡ best
+  pub far-one : (w : Way) → closeOf vs p w ≡ 0 → worthOf (scoreAt vs p c) best w ≡ best
   unfolding closeOf worthOf scoreAt scoreOf lesserOf
   far-one w = go (eqb (w .next) 0) (near p (pointAt vs (w .next - 1)))
     where

@@ -2,20 +2,20 @@
 use Rattle.path.specs.Strokes.{pointAt}
 use Rattle.path.specs.InnerPushes.{putPoint}
 use mathlib.Core.Path.{_≡_}
-use mathlib.Core.Bool.{Bool, true, false, cond, _&&_}
+use mathlib.Core.Bool.{Bool, true, false, cond, _&&_, _||_}
 use mathlib.Core.List.{List, [], _∷_}
 use Prim.Native.Nat.{ℕ, zero, suc, _+_, _-_, _*_, _/_, _%_, _^_, _<_, _≤_}
 use lib.ListN.{length, getD, set}
 use lib.Dec.{eqb, leb, ltb}
 use lib.IntN.{ℤ, pos, negsuc}
-use lib.Ieee.{Float, eq}
+use lib.Ieee.{Float, eq, le, neg}
 use Rattle.vector.specs.declared.Vector.{Vector}
 use Rattle.mesh_weld.specs.declared.Cube.{Cube}
 use Rattle.mesh_weld.specs.declared.Way.{Way}
 use Rattle.mesh_weld.specs.declared.Ways.{Ways}
 use Rattle.mesh_weld.specs.declared.Found.{Found}
 use Rattle.mesh_weld.specs.declared.Found.the-variants.{At, Nothing}
-use Rattle.mesh_weld.specs.Weld.{cell, near, find, weldOf}
+use Rattle.mesh_weld.specs.Weld.{side, cell, near, find, weldOf}
 use lib.Seq.{sets}
 
 -- what the loop over the corners leaves
@@ -112,6 +112,10 @@ rankOf c v = placeOf (key (v .x)) (c .x) * 9 + placeOf (key (v .y)) (c .y) * 3 +
 unfoldable pub equalOf : Vector → Vector → Bool
 equalOf p v = eq (p .x) (v .x) && (eq (p .y) (v .y) && eq (p .z) (v .z))
 
+-- a difference that parts two points by itself: 0.000001 or more, either way
+unfoldable pub apartOf : Float → Bool
+apartOf d = le side d || le d (neg side)
+
 -- what is worth nothing: 27 * 2 ^ 20
 abbrev pub top : ℕ
 top = 28311552
@@ -145,13 +149,13 @@ abbrev pub allWorth : (ℕ → ℕ) → ℕ → List Way → ℕ
 allWorth f best [] = best
 allWorth f best (w ∷ ws) = allWorth f (worthOf f best w) ws
 
--- how many of the vertices ahead are near p
+-- 1 where the vertex ahead is near p, and else 0; of several ways a bit each, the first the lowest
 unfoldable pub closeOf : List Float → Vector → Way → ℕ
 closeOf vs p w = cond (eqb (w .next) 0) 0 (cond (near p (pointAt vs (w .next - 1))) 1 0)
 
 abbrev pub allClose : List Float → Vector → List Way → ℕ
 allClose vs p [] = 0
-allClose vs p (w ∷ ws) = closeOf vs p w + allClose vs p ws
+allClose vs p (w ∷ ws) = closeOf vs p w + 2 * allClose vs p ws
 
 abbrev pub nexts : List Way → ℕ
 nexts [] = 0
@@ -199,9 +203,9 @@ abbrev pub grown : List Float → ℕ → Vector → Found → List Float
 grown vs k p (At i) = vs
 grown vs k p Nothing = putPoint vs k p
 
-abbrev pub numberOf : ℕ → Found → ℕ
-numberOf k (At i) = i
-numberOf k Nothing = k
+abbrev pub cornerNumber : ℕ → Found → ℕ
+cornerNumber k (At i) = i
+cornerNumber k Nothing = k
 
 abbrev pub moreOf : ℕ → Found → ℕ
 moreOf k (At i) = k
@@ -209,6 +213,6 @@ moreOf k Nothing = k + 1
 
 pub record Placed (vs : List Float) (is : List ℕ) (m k i : ℕ) (p : Vector) (s′ : List ℕ) (vs′ : List Float) (is′ : List ℕ) (r : ℕ) : Type 0 where
   pub vertices : vs′ ≡ grown vs k p (find vs k p)
-  pub indices : is′ ≡ set is i (numberOf k (find vs k p))
+  pub indices : is′ ≡ set is i (cornerNumber k (find vs k p))
   pub count : r ≡ moreOf k (find vs k p)
   pub table : Table s′ (coarseAt vs′) m r

@@ -56,22 +56,22 @@ unfoldable pub find : List Float → ℕ → Vector → Found
 find vs k p = three (λ a. three (λ b. three (λ c. findIn vs k p a b c) (cell (p .z))) (cell (p .y))) (cell (p .x))
 
 -- the vertices so far as a flat list, how many they are, and the numbers of the corners passed
-pub record Welded : Type 0 where
+pub record Merged : Type 0 where
   pub vertices : List Float
   pub count : ℕ
   pub indices : List ℕ
 
-unfoldable pub joinAs : Welded → Vector → Found → Welded
+unfoldable pub joinAs : Merged → Vector → Found → Merged
 joinAs w p (At i) = record { vertices = w .vertices; count = w .count; indices = w .indices ++ i ∷ [] }
 joinAs w p Nothing = record { vertices = w .vertices ++ p .x ∷ p .y ∷ p .z ∷ []; count = w .count + 1; indices = w .indices ++ w .count ∷ [] }
 
-unfoldable pub join : Welded → Vector → Welded
+unfoldable pub join : Merged → Vector → Merged
 join w p = joinAs w p (find (w .vertices) (w .count) p)
 
 -- what the first n corners give
-unfoldable pub weldTo : List Float → ℕ → Welded
+unfoldable pub weldTo : List Float → ℕ → Merged
 weldTo cs zero = record { vertices = []; count = 0; indices = [] }
 weldTo cs (suc n) = join (weldTo cs n) (pointAt cs n)
 
-unfoldable pub weldOf : List Float → Welded
+unfoldable pub weldOf : List Float → Merged
 weldOf cs = weldTo cs (length cs / 3)

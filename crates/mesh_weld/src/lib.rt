@@ -10,14 +10,15 @@ use vector::Vector;
 use vector::number::Whole;
 use vector::number::floor;
 ghost use mathlib.Core.Path.{_≡_};
+ghost use mathlib.Core.Bool.{true};
 ghost use Prim.Native.Nat.{_+_, _*_, _/_, _^_, _≤_, _<_};
 ghost use mathlib.Core.List.{[], _∷_, map};
 ghost use lib.ListN.{length, replicate};
 ghost use Rattle.refusal.specs.Each.{Each};
 ghost use Rattle.path.specs.Strokes.{pointAt};
 ghost use lib.IntN.{natAbs};
-ghost use Rattle.mesh_weld.specs.Weld.{find as findOf};
-ghost use Rattle.mesh_weld.specs.InnerTable.{count, key, cubeOf, Counted, foldedOf, bucketOf, coarseOf, turnedOf, linkOf, Older, Ends, Hung, placeOf, rankOf, equalOf, top, scoreOf, scoreAt, cube, eightFrom, listed, wayOf, onwardOf, lesserOf, worthOf, allWorth, closeOf, allClose, nexts, NoMore, Least, About, Ready, Placed};
+ghost use Rattle.mesh_weld.specs.Weld.{near as nearOf, find as findOf};
+ghost use Rattle.mesh_weld.specs.InnerTable.{count, key, cubeOf, Counted, foldedOf, bucketOf, coarseOf, turnedOf, linkOf, Older, Ends, Hung, placeOf, rankOf, equalOf, apartOf, top, scoreOf, scoreAt, cube, eightFrom, listed, wayOf, onwardOf, lesserOf, worthOf, allWorth, closeOf, allClose, nexts, NoMore, Least, About, Ready, Placed};
 ghost use Rattle.mesh_weld.specs.Call.{said, verdictOf, left, weldLeft};
 ghost use Rattle.mesh_weld.specs.InnerTable.{Laid};
 
@@ -179,21 +180,45 @@ fn equal(p: Vector, v: Vector) -> bool
     false
 }
 
-// What vertex number i, the point v, is worth to the corner p in cell c: the place of its cell and then its number; TOP and more is nothing.
-// An equal vertex lies in the same cell, place 13: most corners of a mesh find one, and are spared its divisions.
+// Whether a difference of 0.000001 or more, either way, parts two points by itself.
+fn apart(d: f64) -> bool
+    ensures { λ r. ⌜ r ≡ apartOf d ⌝ }
+{
+    if 0.000001 <= d {
+        return true;
+    }
+    d <= -0.000001
+}
+
+// Whether two points are strictly nearer than 0.000001, by squares. Most are told apart with no square: of a difference that is tiny beside
+// a large one the square may be subnormal, and some processors take a hundred times as long for that.
+fn near(p: Vector, v: Vector) -> bool
+    ensures { λ r. ⌜ r ≡ nearOf p v ⌝ }
+{
+    let d = p.sub(v);
+    if apart(d.x) {
+        return false;
+    }
+    if apart(d.y) {
+        return false;
+    }
+    if apart(d.z) {
+        return false;
+    }
+    d.length_squared() < 0.000001 * 0.000001
+}
+
+// What vertex number i, the point v, which is near, is worth to the corner p in cell c: the place of its cell and then its number; TOP
+// and more is nothing. An equal vertex lies in the same cell, place 13: most corners of a mesh find one, and are spared its divisions.
 fn score(p: Vector, c: Cube, v: Vector, i: usize) -> u64
-    requires { ⌜ Counted c ⌝ }
-    requires { ⌜ i < 2 ^ 20 ⌝ }
-    requires { ⌜ c ≡ cubeOf p ⌝ }
+    requires { ⌜ Counted c × (c ≡ cubeOf p) ⌝ }
+    requires { ⌜ (i < 2 ^ 20) × (nearOf p v ≡ true) ⌝ }
     ensures { λ r. ⌜ r ≡ scoreOf p c v i ⌝ }
 {
-    if p.distance_squared(v) < 0.000001 * 0.000001 {
-        if equal(p, v) {
-            return 13 * PLACE + i as u64;
-        }
-        return rank(v, c) * PLACE + i as u64;
+    if equal(p, v) {
+        return 13 * PLACE + i as u64;
     }
-    TOP
+    rank(v, c) * PLACE + i as u64
 }
 
 fn lesser(a: u64, b: u64) -> u64
@@ -270,46 +295,6 @@ fn all_onward(scratch: &[u32], g: VertexMerger, w: Ways) -> Ways
     }
 }
 
-// The lesser of a number and of what the vertex ahead on a way is worth.
-fn worth(vertices: &[f64], p: Vector, c: Cube, w: Way, best: u64) -> u64
-    requires { ⌜ Counted c ⌝ }
-    requires { ⌜ c ≡ cubeOf p ⌝ }
-    requires { ⌜ w .next ≤ 2 ^ 20 ⌝ }
-    ensures { λ r. ⌜ r ≡ worthOf (scoreAt (now (vertices .entry)) p c) best w ⌝ }
-{
-    if w.next == 0 {
-        return best;
-    }
-    let v = w.next - 1;
-    lesser(score(p, c, point_at(vertices, v), v), best)
-}
-
-// The same of two ways. Of most both have ended, and that is tested here, where it costs no call.
-fn worth_two(vertices: &[f64], p: Vector, c: Cube, a: Way, b: Way, best: u64) -> u64
-    requires { ⌜ Counted c ⌝ }
-    requires { ⌜ c ≡ cubeOf p ⌝ }
-    requires { ⌜ (a .next ≤ 2 ^ 20) × (b .next ≤ 2 ^ 20) ⌝ }
-    ensures { λ r. ⌜ r ≡ allWorth (scoreAt (now (vertices .entry)) p c) best (a ∷ b ∷ []) ⌝ }
-{
-    if a.next + b.next == 0 {
-        return best;
-    }
-    let r = worth(vertices, p, c, a, best);
-    worth(vertices, p, c, b, r)
-}
-
-fn all_worth(vertices: &[f64], p: Vector, c: Cube, w: Ways, best: u64) -> u64
-    requires { ⌜ Counted c ⌝ }
-    requires { ⌜ c ≡ cubeOf p ⌝ }
-    requires { ⌜ Each (NoMore (2 ^ 20)) (listed w) ⌝ }
-    ensures { λ r. ⌜ r ≡ allWorth (scoreAt (now (vertices .entry)) p c) best (listed w) ⌝ }
-{
-    let two = worth_two(vertices, p, c, w.a, w.b, best);
-    let four = worth_two(vertices, p, c, w.c, w.d, two);
-    let six = worth_two(vertices, p, c, w.e, w.f, four);
-    worth_two(vertices, p, c, w.g, w.h, six)
-}
-
 // Vertex v, read with no test: it is there.
 fn vertex_in(vertices: &[f64], v: usize) -> Vector
     requires { ⌜ (v * 3 + 2 < length (now vertices)) × (v < 2 ^ 20) ⌝ }
@@ -331,27 +316,56 @@ fn close(vertices: &[f64], g: VertexMerger, p: Vector, w: Way) -> usize
     if w.next == 0 {
         return 0;
     }
-    if p.distance_squared(vertex_in(vertices, w.next - 1)) < 0.000001 * 0.000001 {
+    if near(p, vertex_in(vertices, w.next - 1)) {
         return 1;
     }
     0
 }
 
-// How many of the vertices ahead are near p.
+// Which of the vertices ahead are near p: a bit for each way, the first the lowest.
 fn all_close(vertices: &[f64], g: VertexMerger, p: Vector, w: Ways) -> usize
     requires { ⌜ (g .count * 3 ≤ length (now vertices)) × (g .count ≤ 2 ^ 20) ⌝ }
     requires { ⌜ Each (NoMore (g .count)) (listed w) ⌝ }
     ensures { λ r. ⌜ r ≡ allClose (now (vertices .entry)) p (listed w) ⌝ }
 {
     let left = close(vertices, g, p, w.a)
-        + close(vertices, g, p, w.b)
-        + close(vertices, g, p, w.c)
-        + close(vertices, g, p, w.d);
+        + 2 * close(vertices, g, p, w.b)
+        + 4 * close(vertices, g, p, w.c)
+        + 8 * close(vertices, g, p, w.d);
     let right = close(vertices, g, p, w.e)
-        + close(vertices, g, p, w.f)
-        + close(vertices, g, p, w.g)
-        + close(vertices, g, p, w.h);
-    left + right
+        + 2 * close(vertices, g, p, w.f)
+        + 4 * close(vertices, g, p, w.g)
+        + 8 * close(vertices, g, p, w.h);
+    left + 16 * right
+}
+
+// The lesser of a number and of what the vertex ahead on a way is worth: nothing where it is not close.
+fn worth(vertices: &[f64], p: Vector, c: Cube, w: Way, is_close: usize, best: u64) -> u64
+    requires { ⌜ Counted c × (c ≡ cubeOf p) × (w .next ≤ 2 ^ 20) ⌝ }
+    requires { ⌜ («is_close» ≡ closeOf (now vertices) p w) × (best ≤ top) ⌝ }
+    ensures { λ r. ⌜ (r ≡ worthOf (scoreAt (now (vertices .entry)) p c) best w) × (r ≤ top) ⌝ }
+{
+    if is_close == 0 {
+        return best;
+    }
+    let v = w.next - 1;
+    lesser(score(p, c, point_at(vertices, v), v), best)
+}
+
+// The same of all eight, by a bit for each that says whether it is close.
+fn all_worth(vertices: &[f64], p: Vector, c: Cube, w: Ways, bits: usize, best: u64) -> u64
+    requires { ⌜ Counted c × (c ≡ cubeOf p) × Each (NoMore (2 ^ 20)) (listed w) ⌝ }
+    requires { ⌜ (bits ≡ allClose (now vertices) p (listed w)) × (best ≤ top) ⌝ }
+    ensures { λ r. ⌜ r ≡ allWorth (scoreAt (now (vertices .entry)) p c) best (listed w) ⌝ }
+{
+    let one = worth(vertices, p, c, w.a, bits % 2, best);
+    let two = worth(vertices, p, c, w.b, bits / 2 % 2, one);
+    let three = worth(vertices, p, c, w.c, bits / 4 % 2, two);
+    let four = worth(vertices, p, c, w.d, bits / 8 % 2, three);
+    let five = worth(vertices, p, c, w.e, bits / 16 % 2, four);
+    let six = worth(vertices, p, c, w.f, bits / 32 % 2, five);
+    let seven = worth(vertices, p, c, w.g, bits / 64 % 2, six);
+    worth(vertices, p, c, w.h, bits / 128 % 2, seven)
 }
 
 // What all_worth gives. Mostly no vertex ahead is near, and then nothing is worth anything.
@@ -361,10 +375,11 @@ fn best_of(vertices: &[f64], g: VertexMerger, p: Vector, c: Cube, w: Ways, best:
     requires { ⌜ Counted c × (c ≡ cubeOf p) × (best ≤ top) ⌝ }
     ensures { λ r. ⌜ r ≡ allWorth (scoreAt (now (vertices .entry)) p c) best (listed w) ⌝ }
 {
-    if all_close(vertices, g, p, w) == 0 {
+    let bits = all_close(vertices, g, p, w);
+    if bits == 0 {
         return best;
     }
-    all_worth(vertices, p, c, w, best)
+    all_worth(vertices, p, c, w, bits, best)
 }
 
 // Zero once all have ended.

@@ -26,8 +26,8 @@ unfoldable pub sizeOf : List ℕ → ℕ → ℕ
 sizeOf page at = cond (ltb (wordOf page at) 96) (wordOf page at) 96
 
 -- a word as a number, as a coordinate, as a byte
-abbrev pub numberOf : List ℕ → ℕ → ℕ
-numberOf page at = wordOf page at % 4294967296
+abbrev pub u32Of : List ℕ → ℕ → ℕ
+u32Of page at = wordOf page at % 4294967296
 
 abbrev pub realOf : List ℕ → ℕ → Float
 realOf page at = ofBits binary64 (wordOf page at)

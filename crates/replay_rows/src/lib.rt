@@ -9,7 +9,7 @@ ghost use Prim.Native.Nat.{_*_, _≤_, _<_};
 ghost use lib.ListN.{length, replicate};
 ghost use lib.Dec.{eqb};
 ghost use lib.Ieee.{binary64, ofBits, nanBits};
-ghost use Rattle.replay_rows.specs.Words.{zero64, sameOf, wordOf, pastOf, sizeOf, numberOf, realOf, byteOf};
+ghost use Rattle.replay_rows.specs.Words.{zero64, sameOf, wordOf, pastOf, sizeOf, u32Of, realOf, byteOf};
 ghost use Rattle.replay_rows.specs.Lists.{filled, expected};
 ghost use Rattle.replay_rows.specs.Answers.{wroteOf, refusedBy, endsAt, elementsOf, countIs, countsAre, headIs, wordsAre, realsAre, pointsLeft, numbersLeft, scratchOf};
 ghost use Rattle.replay_rows.specs.Rows.{digitOf, fitsIn, withDigit, withEnd, fed, kindOf, goodRow, bumped, counted, namesIn};
@@ -94,7 +94,7 @@ pub fn size(page: &[u64; 256], at: usize) -> usize
 
 // The number at a place.
 pub fn number(page: &[u64; 256], at: usize) -> u32
-    ensures { λ r. ⌜ r ≡ numberOf (now (page .entry)) at ⌝ }
+    ensures { λ r. ⌜ r ≡ u32Of (now (page .entry)) at ⌝ }
 {
     (word(page, at) % 4294967296) as u32
 }
@@ -117,7 +117,7 @@ pub fn byte(page: &[u64; 256], at: usize) -> u8
 
 // The 96 words from a place on, as a list of numbers.
 pub fn numbers(page: &[u64; 256], at: usize) -> [u32; 96]
-    ensures { λ r. ⌜ (r ≡ filled (λ i. numberOf (now (page .entry)) (pastOf at i)) (replicate 96 0) 96) × (length r ≡ 96) ⌝ }
+    ensures { λ r. ⌜ (r ≡ filled (λ i. u32Of (now (page .entry)) (pastOf at i)) (replicate 96 0) 96) × (length r ≡ 96) ⌝ }
 {
     let mut list = [0u32; 96];
     let mut i = 0;

@@ -2,6 +2,7 @@
 //! through the tree of their bucket is long.
 
 use crate::random::Random;
+use std::sync::OnceLock;
 
 type Point = [f64; 3];
 type Cell = [u64; 3];
@@ -85,11 +86,51 @@ fn beside(random: &mut Random, home: Cell, buckets: usize, bits: usize) -> Point
 }
 
 /// Steps from a coarse cell that keep the first `bits` bits of its way and, since the hash is a sum, nearly always its bucket.
-fn steps(random: &mut Random, bits: usize) -> Vec<Cell> {
-    let shift = [bits + 2, bits + 1, bits].map(|b| b / 3);
+/// Flat ones leave x as it is.
+fn steps(random: &mut Random, bits: usize, flat: bool) -> Vec<Cell> {
+    let shift = [if flat { 63 } else { (bits + 2) / 3 }, (bits + 1) / 3, bits / 3];
     let any = |random: &mut Random| shift.map(|s| (random.bits() % (FAR / 2)) >> s << s);
     let near = |cell: &Cell| hash(*cell).min(PRIME - hash(*cell)) < 2_000 && *cell != [0; 3];
     (0..30_000_000).map(|_| any(random)).filter(near).take(8).collect()
+}
+
+/// Such steps for each number of bits, the fewest first.
+fn mixed_steps() -> &'static [Vec<Cell>] {
+    static MADE: OnceLock<Vec<Vec<Cell>>> = OnceLock::new();
+    let mut random = Random::new(77);
+    MADE.get_or_init(|| (0..92).map(|bits| steps(&mut random, bits, false)).collect())
+}
+
+fn flat_steps() -> &'static [Vec<Cell>] {
+    static MADE: OnceLock<Vec<Vec<Cell>>> = OnceLock::new();
+    let mut random = Random::new(78);
+    MADE.get_or_init(|| (0..80).map(|bits| steps(&mut random, bits, true)).collect())
+}
+
+/// Steps of multiples of 2^32 coarse cells: they keep the first 96 bits of a way and, by their hash, often its bucket.
+fn far_steps() -> Vec<Cell> {
+    let wide = |k: usize| [k % 243, k / 243 % 243, k / 243 / 243].map(|j| j as i64 - 121);
+    let sum = |j: &[i64; 3]| (0..3).map(|a| j[a] * TIMES[a] as i64).sum::<i64>().rem_euclid(PRIME as i64) as u64;
+    let near = |j: &[i64; 3]| sum(j).min(PRIME - sum(j)) < 10_900 && *j != [0; 3];
+    (0..243 * 243 * 243).map(wide).filter(near).map(|j| j.map(|j| (j << 32) as u64)).collect()
+}
+
+/// Strangers on the ways to the eight coarse cells about a place: one for each list of steps that has one in the bucket. Those that
+/// share the fewest bits come first: each then stays on the way.
+fn strangers(middle: Cell, buckets: usize, steps: &[Vec<Cell>]) -> Vec<Point> {
+    let bucket = |cell: Cell| (hash(cell) as usize * buckets) >> 32;
+    let turned = |step: &Cell| [1, u64::MAX].map(|sign| step.map(|s| s.wrapping_mul(sign)));
+    let mut found = vec![];
+    for d in 0..8 {
+        let home = [0, 1, 2].map(|a| middle[a] - (d >> a & 1));
+        let beside = |step: Cell| [0, 1, 2].map(|a| home[a].wrapping_add(step[a]));
+        let on_way = |steps: &Vec<Cell>| {
+            let cells = steps.iter().flat_map(turned).map(beside);
+            cells.filter(|&cell| bucket(cell) == bucket(home)).find_map(within)
+        };
+        found.extend(steps.iter().filter_map(on_way));
+    }
+    found
 }
 
 /// The vertices of eight coarse cells about a corner, as full as they can lie.
@@ -125,34 +166,10 @@ pub fn long_ways(count: usize) -> Vec<Point> {
     corners
 }
 
-/// The same at sixty places of 196,608 corners, the places in a mixed order, so that each step of a look is far from the last. On a
-/// way the vertices that share the fewest bits come first: each then stays on it.
-pub fn many_long_ways(count: usize) -> Vec<Point> {
-    let mut random = Random::new(77);
-    let bucket = |cell: Cell| (hash(cell) as usize * 2 * count) >> 32;
-    let steps: Vec<Vec<Cell>> = (0..92).map(|bits| steps(&mut random, bits)).collect();
-    let any = |random: &mut Random| HOME + random.below(100_000_000_000) as u64 - 50_000_000_000;
-    let middles: Vec<Cell> = (0..count / 3277).map(|_| [(); 3].map(|_| any(&mut random))).collect();
-    let mut lists: Vec<Vec<Point>> = vec![];
-    for middle in &middles {
-        let mut list = vec![];
-        for d in 0..8 {
-            let home = [0, 1, 2].map(|a| middle[a] - (d >> a & 1));
-            let turned = |step: &Cell| [1, u64::MAX].map(|sign| step.map(|s| s.wrapping_mul(sign)));
-            let beside = |step: Cell| [0, 1, 2].map(|a| home[a].wrapping_add(step[a]));
-            let on_way = |steps: &Vec<Cell>| {
-                let cells = steps.iter().flat_map(turned).map(beside);
-                cells.filter(|&cell| bucket(cell) == bucket(home)).find_map(within)
-            };
-            list.extend(steps.iter().filter_map(on_way));
-        }
-        let mut full: Vec<Point> = packed(middle.map(from)).collect();
-        (1..full.len()).rev().for_each(|i| full.swap(i, random.below(i + 1)));
-        list.extend(full);
-        list.reverse();
-        lists.push(list);
-    }
+/// The lists' corners, each in its own order, the lists in a mixed one.
+fn mixed(random: &mut Random, mut lists: Vec<Vec<Point>>) -> Vec<Point> {
     let mut corners = vec![];
+    lists.iter_mut().for_each(|list| list.reverse());
     while !lists.is_empty() {
         let place = random.below(lists.len());
         match lists[place].pop() {
@@ -160,7 +177,96 @@ pub fn many_long_ways(count: usize) -> Vec<Point> {
             None => drop(lists.swap_remove(place)),
         }
     }
+    corners
+}
+
+/// The same at sixty places of 196,608 corners, the places in a mixed order, so that each step of a look is far from the last.
+pub fn many_long_ways(count: usize) -> Vec<Point> {
+    let mut random = Random::new(77);
+    let any = |random: &mut Random| HOME + random.below(100_000_000_000) as u64 - 50_000_000_000;
+    let middles: Vec<Cell> = (0..count / 3277).map(|_| [(); 3].map(|_| any(&mut random))).collect();
+    let list = |middle: &Cell| {
+        let mut full: Vec<Point> = packed(middle.map(from)).collect();
+        (1..full.len()).rev().for_each(|i| full.swap(i, random.below(i + 1)));
+        [strangers(*middle, 2 * count, mixed_steps()), full].concat()
+    };
+    let lists = middles.iter().map(list).collect();
+    let mut corners = mixed(&mut random, lists);
     let more = count - corners.len();
     corners.extend((0..more).map(|k| amid(middles[random.below(middles.len())].map(from), k)));
+    corners
+}
+
+/// Twelve vertices just near enough to a corner, as far from each other as they can lie there.
+fn icosahedron(centre: Point) -> impl Iterator<Item = Point> {
+    let golden = (1.0 + 5f64.sqrt()) / 2.0;
+    let part = 0.956 * SIDE / (1.0 + golden * golden).sqrt();
+    let sign = |odd: usize| (odd % 2 * 2) as f64 - 1.0;
+    (0..12).map(move |i| {
+        let mut p = [0.0, sign(i) * part, sign(i / 2) * golden * part];
+        p.rotate_right(i / 4);
+        [0, 1, 2].map(|a| centre[a] + p[a])
+    })
+}
+
+/// What lies about a place: twelve vertices near its corner, and the eight coarse cells full besides.
+fn about(centre: Point) -> Vec<Point> {
+    let near: Vec<Point> = icosahedron(centre).collect();
+    let apart = |p: &Point, q: &Point| (0..3).map(|a| (p[a] - q[a]).powi(2)).sum::<f64>() >= SIDE * SIDE;
+    let room = |p: &Point| near.iter().all(|q| apart(p, q)) && apart(p, &centre);
+    near.iter().copied().chain(packed(centre).filter(room)).collect()
+}
+
+/// Corners asked for in turn at each of these places, past strangers that `put` moves within their cells.
+fn asked_in_turn(count: usize, middles: &[Cell], steps: &[Vec<Cell>], put: impl Fn(Point) -> Point) -> Vec<Point> {
+    let past = middles.iter().flat_map(|&middle| strangers(middle, 2 * count, steps)).map(put);
+    let mut corners: Vec<Point> = past.chain(middles.iter().flat_map(|middle| about(middle.map(from)))).collect();
+    let more = count - corners.len();
+    corners.extend((0..more).map(|k| middles[k % middles.len()].map(from)));
+    corners
+}
+
+/// Twenty-four places of 196,608 corners; x of each by `x`, y and z near 0.
+fn places(count: usize, x: impl Fn(u64) -> u64) -> Vec<Cell> {
+    let mut random = Random::new(79);
+    let mut any = || HOME + random.below(4_000_000_000) as u64 - 2_000_000_000;
+    (0..count / 8192).map(|_| [x(any()), any(), any()]).collect()
+}
+
+/// The dearest corners that were found: the longest ways, and as many near vertices as a corner can have.
+pub fn longest_ways(count: usize) -> Vec<Point> {
+    let far = far_steps().into_iter().map(|step| vec![step]);
+    let steps: Vec<Vec<Cell>> = mixed_steps().iter().cloned().chain(far).collect();
+    asked_in_turn(count, &places(count, |x| x), &steps, |p| p)
+}
+
+/// Ways past strangers whose x differs from the corner's by so little that its square is subnormal, which some processors take a
+/// hundred times as long for.
+pub fn subnormal_ways(count: usize) -> Vec<Point> {
+    asked_in_turn(count, &places(count, |_| HOME), flat_steps(), |[x, y, z]| [1e-160f64.copysign(x), y, z])
+}
+
+/// Long ways to the cells about 0, where vertices can be near a corner with differences on one or two axes whose squares are
+/// subnormal: eighteen of them, and the cells full besides.
+pub fn origin_ways(count: usize) -> Vec<Point> {
+    let (asked, tiny): (Point, f64) = ([1e-160; 3], 1e-310);
+    let mut near: Vec<Point> = vec![];
+    for (a, s) in (0..6).map(|i| (i / 2, if i % 2 == 0 { -1.0 } else { 1.0 })) {
+        let mut p = [tiny; 3];
+        p[a] = s * 0.9e-6;
+        near.push(p);
+        for t in [-1.0, 1.0] {
+            let mut p = [tiny, s * 0.9999e-6, t * 0.9999e-6];
+            p.rotate_right(a);
+            near.push(p);
+        }
+    }
+    let far = far_steps().into_iter().map(|step| vec![step]);
+    let steps: Vec<Vec<Cell>> = mixed_steps().iter().cloned().chain(far).collect();
+    let mut corners = strangers([HOME; 3], 2 * count, &steps);
+    let apart = |p: &Point, q: &Point| (0..3).map(|a| (p[a] - q[a]).powi(2)).sum::<f64>() >= SIDE * SIDE;
+    let full = packed([0.0; 3]).filter(|p| near.iter().chain([&asked]).all(|q| apart(p, q)));
+    corners.extend(near.iter().copied().chain(full));
+    corners.resize(count, asked);
     corners
 }

@@ -50,6 +50,12 @@ pub const CUTS: &[Cut] = &[
         room: MOST.1,
     },
     Cut {
+        name: "spans whose squares are subnormal, and a longer one, fits",
+        strokes: || vec![[vec![1.1e-160; MOST.1 - 5], vec![1e-158]].concat()],
+        step: 5e-159,
+        room: MOST.1,
+    },
+    Cut {
         name: "two strokes, each just below the limit",
         strokes: || vec![vec![262_143.0]; 2],
         step: 0.25,

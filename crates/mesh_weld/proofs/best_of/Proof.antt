@@ -19,7 +19,7 @@ returns c =
 all-worth-requires : tie.Need-all-worth-requires
 all-worth-requires c κs =
     let s = c .before .before .before in
-    (s .pre .1 .1 .0, (s .pre .1 .1 .1, no-more (s .args .g .count) 1048576 (s .pre .0 .1) (listed (s .args .w)) (s .pre .1 .0)))
+    ((s .pre .1 .1 .0, s .pre .1 .1 .1, no-more (s .args .g .count) 1048576 (s .pre .0 .1) (listed (s .args .w)) (s .pre .1 .0)), (c .before .all-close .ensures, s .pre .1 .1 .2))
 
 returns-2 : tie.Need-returns-2
 returns-2 c = search needs

@@ -1,5 +1,5 @@
 -- `close` meets its contract: nothing is ahead, or a vertex that is near or is not.
-use mathlib.Core.Path.{_≡_, ap, _∙_}
+use mathlib.Core.Path.{_≡_, sym, _∙_}
 use mathlib.Core.Bool.{true, false}
 use Prim.Native.Nat.{ℕ, _-_}
 use native.Mathlib.Omega.{arith}
@@ -19,22 +19,20 @@ sub-vertex-in c = search needs
 vertex-in-requires : tie.Need-vertex-in-requires
 vertex-in-requires c κs = search needs
 
-distance-squared-requires : tie.Need-distance-squared-requires
-distance-squared-requires c κs = search needs
+near-requires : tie.Need-near-requires
+near-requires c κs = search needs
 
 returns-2 : tie.Need-returns-2
-unfolding near
 returns-2 c =
     let a = c .before .before .before .before .before .before .before .args in
-    let e : near (a .p) (pointAt (a .vertices .now) (a .w .next - 1)) ≡ true = rw (c .before .distance-squared .ensures, c .before .before .vertex-in .ensures) at (c .if2 .taken) in
+    let e : near (a .p) (pointAt (a .vertices .now) (a .w .next - 1)) ≡ true = rw (c .before .before .vertex-in .ensures) at (sym (c .before .near .ensures) ∙ c .if2 .taken) in
     (close-met (a .vertices .now) (a .p) (a .w) (c .before .before .before .before .if1 .left) true e, omega arith)
 
 returns-3 : tie.Need-returns-3
-unfolding near
 returns-3 c =
     let a = c .before .before .before .before .before .before .before .args in
-    let e : near (a .p) (pointAt (a .vertices .now) (a .w .next - 1)) ≡ false = rw (c .before .distance-squared .ensures, c .before .before .vertex-in .ensures) at (c .if2 .left) in
+    let e : near (a .p) (pointAt (a .vertices .now) (a .w .next - 1)) ≡ false = rw (c .before .before .vertex-in .ensures) at (sym (c .before .near .ensures) ∙ c .if2 .left) in
     (close-met (a .vertices .now) (a .p) (a .w) (c .before .before .before .before .if1 .left) false e, omega arith)
 
 pub close-spec : {M : Type 1} → statement M
-close-spec = tie.close (tie.spec returns sub-vertex-in vertex-in-requires distance-squared-requires returns-2 returns-3)
+close-spec = tie.close (tie.spec returns sub-vertex-in vertex-in-requires near-requires returns-2 returns-3)

@@ -1,16 +1,11 @@
--- `score` meets its contract: far, near and equal, or near.
-use mathlib.Core.Path.{_≡_, sym, ap, _∙_}
-use mathlib.Core.Bool.{true, false}
+-- `score` meets its contract: a near vertex is equal, or its cell tells.
+use mathlib.Core.Path.{sym, ap, _∙_}
 use Prim.Native.Nat.{ℕ, _+_, _*_}
 use borrow.Author.Needs.{needs}
-use Rattle.mesh_weld.specs.Weld.{near}
-use Rattle.mesh_weld.proofs.Ranks.{score-near, score-far}
+use Rattle.mesh_weld.proofs.Ranks.{score-near}
 use Rattle.mesh_weld.proofs.Equals.{rank-of-equal}
 use Rattle.mesh_weld.proofs.score.Statement.{statement}
 use Rattle.mesh_weld.proofs.score.Tie as tie
-
-distance-squared-requires : tie.Need-distance-squared-requires
-distance-squared-requires c κs = search needs
 
 equal-requires : tie.Need-equal-requires
 equal-requires c κs = search needs
@@ -22,14 +17,11 @@ add-result : tie.Need-add-result
 add-result c = search needs
 
 returns : tie.Need-returns
-unfolding near
 returns c =
-    let d = c .before .before .before in
-    let s = d .before in
+    let s = c .before .before in
     let a = s .args in
-    let n : near (a .p) (a .v) ≡ true = rw (d .distance-squared .ensures) at (c .before .before .if1 .taken) in
-    ap (λ (x : ℕ). x * 1048576 + a .i) (sym (rank-of-equal (a .p) (a .c) (a .v) (s .pre .1 .1) (sym (c .before .equal .ensures) ∙ c .if2 .taken)))
-    ∙ score-near (a .p) (a .c) (a .v) (a .i) n
+    ap (λ (x : ℕ). x * 1048576 + a .i) (sym (rank-of-equal (a .p) (a .c) (a .v) (s .pre .0 .1) (sym (c .before .equal .ensures) ∙ c .if1 .taken)))
+    ∙ score-near (a .p) (a .c) (a .v) (a .i) (s .pre .1 .1)
 
 rank-requires : tie.Need-rank-requires
 rank-requires c κs = search needs
@@ -41,26 +33,15 @@ add-result-2 : tie.Need-add-result-2
 add-result-2 c = search needs
 
 returns-2 : tie.Need-returns-2
-unfolding near
 returns-2 c =
-    let d = c .before .before .before .before in
-    let a = d .before .args in
-    let n : near (a .p) (a .v) ≡ true = rw (d .distance-squared .ensures) at (c .before .before .before .if1 .taken) in
-    ap (λ (x : ℕ). x * 1048576 + a .i) (c .rank .ensures .0) ∙ score-near (a .p) (a .c) (a .v) (a .i) n
-
-returns-3 : tie.Need-returns-3
-unfolding near
-returns-3 c =
-    let d = c .before in
-    let a = d .before .args in
-    let n : near (a .p) (a .v) ≡ false = rw (d .distance-squared .ensures) at (c .if1 .left) in
-    score-far (a .p) (a .c) (a .v) (a .i) n
+    let s = c .before .before .before in
+    let a = s .args in
+    ap (λ (x : ℕ). x * 1048576 + a .i) (c .rank .ensures .0) ∙ score-near (a .p) (a .c) (a .v) (a .i) (s .pre .1 .1)
 
 pub score-spec : {M : Type 1} → statement M
 score-spec =
     tie.close
     (tie.spec
-    distance-squared-requires
     equal-requires
     mul-result
     add-result
@@ -68,5 +49,4 @@ score-spec =
     rank-requires
     mul-result-2
     add-result-2
-    returns-2
-    returns-3)
+    returns-2)

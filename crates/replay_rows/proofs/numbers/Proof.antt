@@ -4,14 +4,14 @@ use native.Mathlib.Omega.{arith}
 use lib.ListN.{length, replicate, length-set}
 use Prim.Native.Nat.{ℕ, _-_, _≤_}
 use mathlib.Core.Path.{_≡_, refl, ap, _∙_}
-use Rattle.replay_rows.specs.Words.{pastOf, numberOf}
+use Rattle.replay_rows.specs.Words.{pastOf, u32Of}
 use Rattle.replay_rows.specs.Lists.{filled}
 use Rattle.replay_rows.proofs.Laws.{fill-turn, fill-end}
 use Rattle.replay_rows.proofs.numbers.Statement.{statement}
 use Rattle.replay_rows.proofs.numbers.Tie as tie
 
 abbrev Inv-loop : tie.InvT-loop
-Inv-loop page at list₀ i₀ list i = (i ≤ 96) × (list ≡ filled (λ (j : ℕ). numberOf page (pastOf at j)) (replicate 96 0) i) × (length list ≡ 96)
+Inv-loop page at list₀ i₀ list i = (i ≤ 96) × (list ≡ filled (λ (j : ℕ). u32Of page (pastOf at j)) (replicate 96 0) i) × (length list ≡ 96)
 
 abbrev μ-loop : tie.MeasureT-loop
 μ-loop page at list₀ i₀ list i = 96 - i
@@ -42,7 +42,7 @@ loop-again : tie.Need-loop-again Inv-loop μ-loop
 loop-again c =
     let z = c .before .before .before .before .args in
     let l = c .before .before .before .loop in
-    (omega arith, fill-turn (λ (j : ℕ). numberOf (z .page .now) (pastOf (z .at) j)) (replicate 96 0) (l .list) (l .i) _ (l .inv .1) (c .number .ensures ∙ ap (numberOf (z .page .now)) (c .before .past .ensures)), rw length-set (l .inv .2))
+    (omega arith, fill-turn (λ (j : ℕ). u32Of (z .page .now) (pastOf (z .at) j)) (replicate 96 0) (l .list) (l .i) _ (l .inv .1) (c .number .ensures ∙ ap (u32Of (z .page .now)) (c .before .past .ensures)), rw length-set (l .inv .2))
 
 returns : tie.Need-returns Inv-loop μ-loop
 returns c = let l = c .before .loop in (fill-end _ (replicate 96 0) (l .list) (l .i) 96 (l .inv .1) (omega arith), l .inv .2)

@@ -25,7 +25,7 @@ fn main() {
     }
     println!("\n## Inputs made to hurt\n");
     println!(
-        "As many edges as the torus has for a splice, as many vertices to simplify (best of 5 runs), as many corners for a weld, as many faces for a drawing; growth as above.\n"
+        "As many edges as the torus has for a splice, as many vertices to simplify (best of 5 runs), sixteen points a face to cut (best of 5), as many corners for a weld (long ways at many places: best of 3), as many faces for a drawing; growth as above.\n"
     );
     println!("| call | port, ms | original, ms | port / original | growth |");
     println!("|---|---|---|---|---|");
@@ -153,6 +153,11 @@ mod calls {
             original: |mesh, runs| path_simplify_of(&spokes(mesh, 4, few_above), runs),
         },
         Call {
+            name: "chop_adaptive, every product subnormal",
+            port: |mesh, runs| tiny_port(mesh, runs.min(5)),
+            original: |mesh, runs| tiny_original(mesh, runs.min(5)),
+        },
+        Call {
             name: "weld, all corners in one cell",
             port: |mesh, runs| weld_of(&cluster(mesh, 0.0), runs),
             original: |mesh, runs| get_or_insert_of(&cluster(mesh, 0.0), runs),
@@ -191,6 +196,21 @@ mod calls {
             name: "weld, long ways at sixty places, mixed",
             port: |mesh, runs| weld_of(&crowded::many_long_ways(mesh.faces.len() * 3), runs.min(3)),
             original: |mesh, runs| get_or_insert_of(&crowded::many_long_ways(mesh.faces.len() * 3), runs.min(3)),
+        },
+        Call {
+            name: "weld, the longest ways found, asked in turn",
+            port: |mesh, runs| weld_of(&crowded::longest_ways(mesh.faces.len() * 3), runs.min(3)),
+            original: |mesh, runs| get_or_insert_of(&crowded::longest_ways(mesh.faces.len() * 3), runs.min(3)),
+        },
+        Call {
+            name: "weld, long ways past subnormal squares",
+            port: |mesh, runs| weld_of(&crowded::subnormal_ways(mesh.faces.len() * 3), runs.min(3)),
+            original: |mesh, runs| get_or_insert_of(&crowded::subnormal_ways(mesh.faces.len() * 3), runs.min(3)),
+        },
+        Call {
+            name: "weld, long ways and subnormal squares near it",
+            port: |mesh, runs| weld_of(&crowded::origin_ways(mesh.faces.len() * 3), runs.min(3)),
+            original: |mesh, runs| get_or_insert_of(&crowded::origin_ways(mesh.faces.len() * 3), runs.min(3)),
         },
         Call {
             name: "draw, triangles, one vertex in every face",
@@ -466,26 +486,63 @@ mod calls {
 
     fn adaptive_port(mesh: &Mesh, runs: usize) -> f64 {
         let (points, starts, _) = rings(mesh);
-        let matrix = ramikohy::Matrix(VIEW);
-        let view = ramikohy::View { matrix, width: 1024.0, height: 768.0, step: 0.01, tolerance: 1e-9 };
-        let (mut out_points, mut out_starts) = (vec![0.0; points.len() * 16], starts.clone());
+        let view = ramikohy::View {
+            matrix: ramikohy::Matrix(VIEW),
+            width: 1024.0,
+            height: 768.0,
+            step: 0.01,
+            tolerance: 1e-9,
+        };
+        adaptive_of(&points, &starts, &view, points.len() * 16, runs)
+    }
+
+    fn adaptive_original(mesh: &Mesh, runs: usize) -> f64 {
+        chop_adaptive_of(&strokes(mesh, 64), VIEW, [1024.0, 768.0], 0.01, runs)
+    }
+
+    /// A view and a stroke of which every product is subnormal, and no span is halved: at 65,536 faces as many points as a call takes.
+    const TINY: f64 = 1e-155;
+
+    fn tiny_view() -> [f64; 16] {
+        [1.0, 1.1, 1.2, 0.0, 1.0, 1.3, 1.4, 0.0, 1.0, 1.5, 1.6, 0.0, 1.0, 1.0, 1.0, 1.0].map(|x| x * TINY)
+    }
+
+    fn tiny_stroke(mesh: &Mesh) -> Vec<[f64; 3]> {
+        let at = |i: usize| if i % 2 == 0 { [1.0, 1.1, 1.2] } else { [0.3, 0.2, 0.1] };
+        (0..16 * mesh.faces.len()).map(|i| at(i).map(|x| x * TINY)).collect()
+    }
+
+    fn tiny_port(mesh: &Mesh, runs: usize) -> f64 {
+        let matrix = ramikohy::Matrix(tiny_view());
+        let view = ramikohy::View { matrix, width: 1.0, height: 1.0, step: 1.0, tolerance: 1e-9 };
+        let points = tiny_stroke(mesh).concat();
+        adaptive_of(&points, &[0], &view, points.len(), runs)
+    }
+
+    fn tiny_original(mesh: &Mesh, runs: usize) -> f64 {
+        let mut paths = Paths::new();
+        paths.new_path().extend(tiny_stroke(mesh).iter().map(|&[x, y, z]| Vector::new(x, y, z)));
+        chop_adaptive_of(&paths, tiny_view(), [1.0, 1.0], 1.0, runs)
+    }
+
+    fn adaptive_of(points: &[f64], starts: &[u32], view: &ramikohy::View, room: usize, runs: usize) -> f64 {
+        let (mut out_points, mut out_starts) = (vec![0.0; room], starts.to_vec());
         best(runs, || {
-            lent::chop_adaptive(&points, &starts, &view, &mut out_points, &mut out_starts).unwrap();
+            lent::chop_adaptive(points, starts, view, &mut out_points, &mut out_starts).unwrap();
             black_box((&mut out_points, &mut out_starts));
         })
     }
 
-    fn adaptive_original(mesh: &Mesh, runs: usize) -> f64 {
-        let [x00, x01, x02, x03, x10, x11, x12, x13, x20, x21, x22, x23, x30, x31, x32, x33] = VIEW;
-        let args = RenderArgs {
-            screen_mat: Matrix { x00, x01, x02, x03, x10, x11, x12, x13, x20, x21, x22, x23, x30, x31, x32, x33 },
-            eye: Vector::default(),
-            up: Vector::default(),
-            width: 1024.0,
-            height: 768.0,
-            step: 0.01,
-        };
-        let paths = strokes(mesh, 64);
+    fn chop_adaptive_of(
+        paths: &Paths<Vector>,
+        view: [f64; 16],
+        [width, height]: [f64; 2],
+        step: f64,
+        runs: usize,
+    ) -> f64 {
+        let [x00, x01, x02, x03, x10, x11, x12, x13, x20, x21, x22, x23, x30, x31, x32, x33] = view;
+        let screen_mat = Matrix { x00, x01, x02, x03, x10, x11, x12, x13, x20, x21, x22, x23, x30, x31, x32, x33 };
+        let args = RenderArgs { screen_mat, eye: Vector::default(), up: Vector::default(), width, height, step };
         best(runs, || {
             black_box(paths.chop_adaptive(&args));
         })

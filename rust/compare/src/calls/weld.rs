@@ -35,10 +35,21 @@ pub fn make(random: &mut Random) -> Input {
     Input { corners, lent }
 }
 
-/// The same, and one in four around a few places whose cells share a bucket, with long ways to some of them.
+/// A number whose difference from others like it is the limit or a few f64 from it, or so small that its square is subnormal.
+fn brink(random: &mut Random) -> f64 {
+    let about: f64 = random.one_of(&[0.0, 1e-6, 1e-6, 7e-7, 5e-7, 1e-160, 1e-162, 5e-324]);
+    let off = random.below(7) as i64 - 3;
+    let x = f64::from_bits((about.to_bits() as i64 + off).max(0) as u64);
+    random.one_of(&[x, -x])
+}
+
+/// The same; one in four by such numbers, and one in four around a few places whose cells share a bucket, with long ways to some
+/// of them.
 fn make_crowded(random: &mut Random) -> Input {
     let mut input = make(random);
     if random.once_in(4) {
+        input.corners.iter_mut().for_each(|x| *x = brink(random));
+    } else if random.once_in(3) {
         let low = random.one_of(&[0, 3, 16]);
         let places: Vec<[f64; 3]> = (0..1 + random.below(18)).map(|_| crowded::in_first_bucket(random, low)).collect();
         let part = random.one_of(&[2.5e-7, 5e-7, 1e-6]);
