@@ -1,5 +1,6 @@
 pub mod Walk
 pub mod Tally
+pub mod InnerSpan
 pub mod InnerMeasure
 pub mod InnerWrite
 pub mod Call

@@ -4,12 +4,14 @@ use crate::Shown;
 use crate::Tally;
 use crate::View;
 use crate::screen::divider;
+use crate::screen::lens_of;
 use crate::screen::show;
 use crate::screen::terminator;
 use path::end_of;
 use path::point_at;
 use refusal::MOST_POINTS;
 use refusal::Refusal;
+use vector::Vector;
 ghost use mathlib.Core.Path.{_≡_};
 ghost use mathlib.Core.Bool.{false};
 ghost use Prim.Native.Nat.{_-_, _≤_};
@@ -17,6 +19,7 @@ ghost use Rattle.refusal.specs.Limits.{mostPoints};
 ghost use Rattle.path.specs.Strokes.{pointAt, gather};
 ghost use Rattle.path_adaptive.specs.Walk.{endsOf, walk, walkFrom, strokeWalked, walksOf};
 ghost use Rattle.path_adaptive.specs.Tally.{pointed, begun, spentStroke, spentAll};
+ghost use Rattle.path_adaptive.specs.InnerSpan.{viewAt, shownAt};
 ghost use Rattle.path_adaptive.specs.InnerMeasure.{tallyOf, pointsOf, Takes, Meets};
 
 // What the walk of a span hands on is one word: the points left, MOST_POINTS at most, or what stopped it.
@@ -79,53 +82,77 @@ fn collector(left: usize) -> usize
     left - 1
 }
 
-// What the walk of a span meets, with a falling depth.
-fn recursive_subdivide(view: View, a: Shown, b: Shown, depth: u32, left: usize) -> usize
+// What the walk of a span meets, with a falling depth: from a, at s on the screen, to b, at t. (Four vectors, and not two of them in a
+// struct each: on x86-64 those come in through memory, and every span took half as long again.)
+fn recursive_subdivide(
+    lens: &[f64; 20],
+    a: Vector,
+    s: Vector,
+    b: Vector,
+    t: Vector,
+    depth: u32,
+    left: usize,
+) -> usize
     requires { ⌜ left ≤ mostPoints ⌝ }
-    ensures { λ r. ⌜ Meets left (walk depth view a b) r ⌝ }
+    ensures { λ r. ⌜ Meets left (walk depth (viewAt (now (lens .entry))) (shownAt a s) (shownAt b t)) r ⌝ }
 {
-    if terminator(view, a, b) {
+    if terminator(lens, a, s, b, t) {
         return collector(left);
     }
-    halve(view, a, b, depth, left)
+    halve(lens, a, s, b, t, depth, left)
 }
 
 // What the walk of a span that is halved meets: its left half, then its right.
-fn halve(view: View, a: Shown, b: Shown, depth: u32, left: usize) -> usize
-    requires { ⌜ (endsOf view a b ≡ false) × (left ≤ mostPoints) ⌝ }
-    ensures { λ r. ⌜ Meets left (walk depth view a b) r ⌝ }
+fn halve(
+    lens: &[f64; 20],
+    a: Vector,
+    s: Vector,
+    b: Vector,
+    t: Vector,
+    depth: u32,
+    left: usize,
+) -> usize
+    requires { ⌜ (endsOf (viewAt (now lens)) (shownAt a s) (shownAt b t) ≡ false) × (left ≤ mostPoints) ⌝ }
+    ensures { λ r. ⌜ Meets left (walk depth (viewAt (now (lens .entry))) (shownAt a s) (shownAt b t)) r ⌝ }
 {
     if depth == 0 {
         return TOO_DEEP;
     }
-    let mid = divider(view, a, b);
-    let after = recursive_subdivide(view, a, mid, depth - 1, left);
+    let mid = divider(lens, a, b);
+    let m = mid.here;
+    let n = mid.seen;
+    let after = recursive_subdivide(lens, a, s, m, n, depth - 1, left);
     if after > MOST_POINTS {
         return after;
     }
-    recursive_subdivide(view, mid, b, depth - 1, after)
+    recursive_subdivide(lens, m, n, b, t, depth - 1, after)
 }
 
 // What the walk of a span meets, where it is not stopped before.
-fn measure_span(view: View, a: Shown, b: Shown, left: usize) -> usize
-    ensures { λ r. ⌜ Meets left (walk 64 view a b) r ⌝ }
+fn measure_span(lens: &[f64; 20], a: Shown, b: Shown, left: usize) -> usize
+    ensures { λ r. ⌜ Meets left (walk 64 (viewAt (now (lens .entry))) a b) r ⌝ }
 {
     if left > MOST_POINTS {
         return left;
     }
-    recursive_subdivide(view, a, b, DEPTH, left)
+    let p = a.here;
+    let q = b.here;
+    let s = a.seen;
+    let t = b.seen;
+    recursive_subdivide(lens, p, s, q, t, DEPTH, left)
 }
 
 // What the spans over the points from place i up to e meet, after the point before them.
 fn measure_spans(view: View, points: &[f64], i: usize, e: usize, first: Shown, left: usize) -> usize
     ensures { λ r. ⌜ Meets left (walkFrom view first (gather (pointAt (now (points .entry))) i (e - i))) r ⌝ }
 {
+    let lens = lens_of(view);
     let mut j = i;
     let mut p = first;
     let mut k = left;
     while j < e {
         let q = show(view, point_at(points, j));
-        k = measure_span(view, p, q, k);
+        k = measure_span(&lens, p, q, k);
         p = q;
         j += 1;
     }

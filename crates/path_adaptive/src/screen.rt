@@ -4,7 +4,8 @@ use crate::View;
 use vector::Vector;
 use vector::matrix::Matrix;
 ghost use mathlib.Core.Path.{_≡_};
-ghost use Rattle.path_adaptive.specs.Walk.{viewOf, shownOf, middleOf, bothBelow, bothAbove, outsideOf, endsOf};
+ghost use Rattle.path_adaptive.specs.InnerSpan.{viewAt, shownAt, middleAt};
+ghost use Rattle.path_adaptive.specs.Walk.{viewOf, shownOf, bothBelow, bothAbove, outsideOf, endsOf};
 
 // The screen of a call, with the step squared.
 pub(crate) fn view_of(matrix: Matrix, width: f64, height: f64, step: f64, tolerance: f64) -> View
@@ -19,6 +20,66 @@ pub(crate) fn view_of(matrix: Matrix, width: f64, height: f64, step: f64, tolera
     }
 }
 
+// The numbers of a screen. Behind a reference they go down the recursion as one word, where a View is copied at each call.
+pub(crate) fn lens_of(view: View) -> [f64; 20]
+    ensures { λ r. ⌜ viewAt r ≡ view ⌝ }
+{
+    let m = view.matrix;
+    [
+        m.x00,
+        m.x01,
+        m.x02,
+        m.x03,
+        m.x10,
+        m.x11,
+        m.x12,
+        m.x13,
+        m.x20,
+        m.x21,
+        m.x22,
+        m.x23,
+        m.x30,
+        m.x31,
+        m.x32,
+        m.x33,
+        view.width,
+        view.height,
+        view.square,
+        view.tolerance,
+    ]
+}
+
+// The screen of its numbers.
+fn view_at(lens: &[f64; 20]) -> View
+    ensures { λ r. ⌜ r ≡ viewAt (now (lens .entry)) ⌝ }
+{
+    let m = Matrix {
+        x00: lens[0],
+        x01: lens[1],
+        x02: lens[2],
+        x03: lens[3],
+        x10: lens[4],
+        x11: lens[5],
+        x12: lens[6],
+        x13: lens[7],
+        x20: lens[8],
+        x21: lens[9],
+        x22: lens[10],
+        x23: lens[11],
+        x30: lens[12],
+        x31: lens[13],
+        x32: lens[14],
+        x33: lens[15],
+    };
+    View {
+        matrix: m,
+        width: lens[16],
+        height: lens[17],
+        square: lens[18],
+        tolerance: lens[19],
+    }
+}
+
 // A point with its place on the screen.
 pub(crate) fn show(view: View, v: Vector) -> Shown
     ensures { λ r. ⌜ r ≡ shownOf view v ⌝ }
@@ -29,12 +90,10 @@ pub(crate) fn show(view: View, v: Vector) -> Shown
 }
 
 // The middle of two points.
-pub(crate) fn divider(view: View, a: Shown, b: Shown) -> Shown
-    ensures { λ r. ⌜ r ≡ middleOf view a b ⌝ }
+pub(crate) fn divider(lens: &[f64; 20], a: Vector, b: Vector) -> Shown
+    ensures { λ r. ⌜ r ≡ shownOf (viewAt (now (lens .entry))) (middleAt a b) ⌝ }
 {
-    let p = a.here;
-    let q = b.here;
-    show(view, p.add(q).mul_scalar(0.5))
+    show(view_at(lens), a.add(b).mul_scalar(0.5))
 }
 
 // Whether both are below a limit.
@@ -73,19 +132,21 @@ fn outside(view: View, a: Vector, b: Vector) -> bool
     both_above(view.height, a.y, b.y)
 }
 
-// Whether a span is not halved.
-pub(crate) fn terminator(view: View, a: Shown, b: Shown) -> bool
-    ensures { λ r. ⌜ r ≡ endsOf view a b ⌝ }
+// Whether a span from a, at s on the screen, to b, at t, is not halved.
+pub(crate) fn terminator(lens: &[f64; 20], a: Vector, s: Vector, b: Vector, t: Vector) -> bool
+    ensures { λ r. ⌜ r ≡ endsOf (viewAt (now (lens .entry))) (shownAt a s) (shownAt b t) ⌝ }
 {
-    let s = a.seen;
-    let t = b.seen;
+    ends(view_at(lens), a, s, b, t)
+}
+
+fn ends(view: View, a: Vector, s: Vector, b: Vector, t: Vector) -> bool
+    ensures { λ r. ⌜ r ≡ endsOf view (shownAt a s) (shownAt b t) ⌝ }
+{
     if outside(view, s, t) {
         return true;
     }
     if s.distance_squared(t) < view.square {
         return true;
     }
-    let p = a.here;
-    let q = b.here;
-    p.distance_squared(q) < view.tolerance
+    a.distance_squared(b) < view.tolerance
 }

@@ -3,6 +3,7 @@ use crate::DEPTH;
 use crate::Shown;
 use crate::View;
 use crate::screen::divider;
+use crate::screen::lens_of;
 use crate::screen::show;
 use crate::screen::terminator;
 use path::Place;
@@ -20,6 +21,7 @@ ghost use Rattle.path.specs.Strokes.{pointAt, gather};
 ghost use Rattle.path.specs.Laid.{joined};
 ghost use Rattle.path.specs.InnerPushes.{putPoints, out, push, pushAll};
 ghost use Rattle.path_adaptive.specs.Walk.{endsOf, one, walk, walkFrom, strokeWalked, walksOf, adapted, halvingsOf, Calm};
+ghost use Rattle.path_adaptive.specs.InnerSpan.{viewAt, shownAt};
 ghost use Rattle.path_adaptive.specs.InnerWrite.{Fits, Inks};
 
 // Where the next point goes, and how many halvings were made so far.
@@ -46,39 +48,64 @@ fn collector(out: &mut [f64], at: Mark, v: Vector) -> Mark
     }
 }
 
-// Writes the walk of a span, with a falling depth.
+// Writes the walk of a span from a, at s on the screen, to b, at t, with a falling depth.
 fn recursive_subdivide(
-    view: View,
-    a: Shown,
-    b: Shown,
+    lens: &[f64; 20],
+    a: Vector,
+    s: Vector,
+    b: Vector,
+    t: Vector,
     depth: u32,
     out: &mut [f64],
     at: Mark,
 ) -> Mark
-    requires { ⌜ Fits (walk depth view a b) at ⌝ }
-    ensures { λ r. ⌜ Inks (walk depth view a b) (now (out .entry)) at (now (out .exit)) r ⌝ }
+    requires { ⌜ Fits (walk depth (viewAt (now lens)) (shownAt a s) (shownAt b t)) at ⌝ }
+    ensures { λ r. ⌜ Inks (walk depth (viewAt (now (lens .entry))) (shownAt a s) (shownAt b t)) (now (out .entry)) at (now (out .exit)) r ⌝ }
 {
-    if terminator(view, a, b) {
-        return collector(out, at, b.here);
+    if terminator(lens, a, s, b, t) {
+        return collector(out, at, b);
     }
-    halve(view, a, b, depth, out, at)
+    halve(lens, a, s, b, t, depth, out, at)
 }
 
 // Writes the walk of a span that is halved: this halving is counted, then its left half goes, then its right. At depth 0 nothing fits.
-fn halve(view: View, a: Shown, b: Shown, depth: u32, out: &mut [f64], at: Mark) -> Mark
-    requires { ⌜ (endsOf view a b ≡ false) × Fits (walk depth view a b) at ⌝ }
-    ensures { λ r. ⌜ Inks (walk depth view a b) (now (out .entry)) at (now (out .exit)) r ⌝ }
+fn halve(
+    lens: &[f64; 20],
+    a: Vector,
+    s: Vector,
+    b: Vector,
+    t: Vector,
+    depth: u32,
+    out: &mut [f64],
+    at: Mark,
+) -> Mark
+    requires { ⌜ (endsOf (viewAt (now lens)) (shownAt a s) (shownAt b t) ≡ false) × Fits (walk depth (viewAt (now lens)) (shownAt a s) (shownAt b t)) at ⌝ }
+    ensures { λ r. ⌜ Inks (walk depth (viewAt (now (lens .entry))) (shownAt a s) (shownAt b t)) (now (out .entry)) at (now (out .exit)) r ⌝ }
 {
     if depth == 0 {
         return at;
     }
-    let mid = divider(view, a, b);
+    let mid = divider(lens, a, b);
+    let m = mid.here;
+    let n = mid.seen;
     let next = Mark {
         points: at.points,
         halvings: at.halvings + 1,
     };
-    let left = recursive_subdivide(view, a, mid, depth - 1, out, next);
-    recursive_subdivide(view, mid, b, depth - 1, out, left)
+    let left = recursive_subdivide(lens, a, s, m, n, depth - 1, out, next);
+    recursive_subdivide(lens, m, n, b, t, depth - 1, out, left)
+}
+
+// Writes the walk of a span.
+fn write_span(lens: &[f64; 20], a: Shown, b: Shown, out: &mut [f64], at: Mark) -> Mark
+    requires { ⌜ Fits (walk 64 (viewAt (now lens)) a b) at ⌝ }
+    ensures { λ r. ⌜ Inks (walk 64 (viewAt (now (lens .entry))) a b) (now (out .entry)) at (now (out .exit)) r ⌝ }
+{
+    let p = a.here;
+    let q = b.here;
+    let s = a.seen;
+    let t = b.seen;
+    recursive_subdivide(lens, p, s, q, t, DEPTH, out, at)
 }
 
 // Writes what the spans over the points from place i up to e give, after the point before them.
@@ -94,12 +121,13 @@ fn write_spans(
     requires { ⌜ Fits (walkFrom view first (gather (pointAt (now points)) i (e - i))) at ⌝ }
     ensures { λ r. ⌜ Inks (walkFrom view first (gather (pointAt (now (points .entry))) i (e - i))) (now (out .entry)) at (now (out .exit)) r ⌝ }
 {
+    let lens = lens_of(view);
     let mut j = i;
     let mut p = first;
     let mut k = at;
     while j < e {
         let q = show(view, point_at(points, j));
-        k = recursive_subdivide(view, p, q, DEPTH, out, k);
+        k = write_span(&lens, p, q, out, k);
         p = q;
         j += 1;
     }

@@ -4,6 +4,7 @@ use borrow.Author.Needs.{needs}
 use Rattle.path_adaptive.specs.Walk.{join, halved, walk}
 use Rattle.path_adaptive.proofs.Walks.{walk-ends, walk-stuck, walk-half}
 use Rattle.path_adaptive.proofs.Meets.{meets-stop, meets-one, meets-stuck, meets-halves}
+use Rattle.path_adaptive.specs.InnerSpan.{viewAt, shownAt}
 use native.Mathlib.Omega.{arith}
 use mathlib.Core.Path.{_≡_, sym, _∙_}
 use Prim.Native.Nat.{ℕ, _+_, _-_, _*_, _<_}
@@ -21,23 +22,23 @@ use Rattle.path_adaptive.proofs.measure.collector.Reads as collector-re
 use Rattle.path_adaptive.proofs.measure.+halve+recursive_subdivide.{statement}
 use Rattle.path_adaptive.proofs.measure.+halve+recursive_subdivide.Tie.{close}
 
-abbrev μ-halve : Measures 0 halve-kinds.ps ℕ
-μ-halve κs a = 2 * a .1 .1 .1 .0
+abbrev μ-halve : Measures 1 halve-kinds.ps ℕ
+μ-halve κs a = 2 * a .1 .1 .1 .1 .1 .0
 
-abbrev μ-subdivide : Measures 0 subdivide-kinds.ps ℕ
-μ-subdivide κs a = 2 * a .1 .1 .1 .0 + 1
+abbrev μ-subdivide : Measures 1 subdivide-kinds.ps ℕ
+μ-subdivide κs a = 2 * a .1 .1 .1 .1 .1 .0 + 1
 
-abbrev halve-at : ℕ → In 0 halve-kinds.ps
-halve-at t = and 0 halve-kinds.ps (is 0 halve-kinds.ps μ-halve t) halve.Pre
+abbrev halve-at : ℕ → In 1 halve-kinds.ps
+halve-at t = and 1 halve-kinds.ps (is 1 halve-kinds.ps μ-halve t) halve.Pre
 
-abbrev halve-below : ℕ → In 0 halve-kinds.ps
-halve-below t = and 0 halve-kinds.ps (falls 0 halve-kinds.ps _<_ μ-halve t) halve.Pre
+abbrev halve-below : ℕ → In 1 halve-kinds.ps
+halve-below t = and 1 halve-kinds.ps (falls 1 halve-kinds.ps _<_ μ-halve t) halve.Pre
 
-abbrev subdivide-at : ℕ → In 0 subdivide-kinds.ps
-subdivide-at t = and 0 subdivide-kinds.ps (is 0 subdivide-kinds.ps μ-subdivide t) subdivide.Pre
+abbrev subdivide-at : ℕ → In 1 subdivide-kinds.ps
+subdivide-at t = and 1 subdivide-kinds.ps (is 1 subdivide-kinds.ps μ-subdivide t) subdivide.Pre
 
-abbrev subdivide-below : ℕ → In 0 subdivide-kinds.ps
-subdivide-below t = and 0 subdivide-kinds.ps (falls 0 subdivide-kinds.ps _<_ μ-subdivide t) subdivide.Pre
+abbrev subdivide-below : ℕ → In 1 subdivide-kinds.ps
+subdivide-below t = and 1 subdivide-kinds.ps (falls 1 subdivide-kinds.ps _<_ μ-subdivide t) subdivide.Pre
 
 abbrev halve-claims : ℕ → halve-lts.Claims
 halve-claims t = (divider-reads.Asked, divider-reads.Learnt, subdivide-below t, subdivide.Post)
@@ -48,7 +49,7 @@ subdivide-claims t = (terminator-reads.Asked, terminator-reads.Learnt, collector
 halve-returns : (t : ℕ) → halve-lts.Need-returns (halve-claims t) (halve-at t) halve.Post
 halve-returns t c =
     let s = c .before in
-    meets-stuck (s .args .left) _ (s .pre .1 .1) (walk-stuck (s .args .view) (s .args .a) (s .args .b) (s .args .depth) (s .pre .1 .0) (c .if1 .taken))
+    meets-stuck (s .args .left) _ (s .pre .1 .1) (walk-stuck (viewAt (s .args .lens .now)) (shownAt (s .args .a) (s .args .s)) (shownAt (s .args .b) (s .args .t)) (s .args .depth) (s .pre .1 .0) (c .if1 .taken))
 
 halve-divider-requires : (t : ℕ) → halve-lts.Need-divider-requires (halve-claims t) (halve-at t) halve.Post
 halve-divider-requires t c κs = search needs
@@ -57,30 +58,30 @@ halve-sub-subdivide : (t : ℕ) → halve-lts.Need-sub-recursive-subdivide (halv
 halve-sub-subdivide t c = omega arith
 
 halve-subdivide-requires : (t : ℕ) → halve-lts.Need-recursive-subdivide-requires (halve-claims t) (halve-at t) halve.Post
-halve-subdivide-requires t c κs = (omega (arith, c .before .before .pre .0), c .before .before .pre .1 .1)
+halve-subdivide-requires t c κs = (omega (arith, c .before .before .before .before .pre .0), c .before .before .before .before .pre .1 .1)
 
 -- its halves
 halves : (t : ℕ) (c : halve-lts.After-divider (halve-claims t) (halve-at t) halve.Post)
-    → let a = c .before .before .args in let m = c .divider .result in walk (a .depth) (a .view) (a .a) (a .b) ≡ halved (join (walk (a .depth - 1) (a .view) (a .a) m) (walk (a .depth - 1) (a .view) m (a .b)))
+    → let a = c .before .before .args in let m = c .divider .result in walk (a .depth) (viewAt (a .lens .now)) (shownAt (a .a) (a .s)) (shownAt (a .b) (a .t)) ≡ halved (join (walk (a .depth - 1) (viewAt (a .lens .now)) (shownAt (a .a) (a .s)) m) (walk (a .depth - 1) (viewAt (a .lens .now)) m (shownAt (a .b) (a .t))))
 halves t c =
     let s = c .before .before in
-    walk-half (s .args .view) (s .args .a) (s .args .b) (s .args .depth) (c .divider .result) (s .pre .1 .0) (c .before .if1 .left) (c .divider .ensures)
+    walk-half (viewAt (s .args .lens .now)) (shownAt (s .args .a) (s .args .s)) (shownAt (s .args .b) (s .args .t)) (s .args .depth) (c .divider .result) (s .pre .1 .0) (c .before .if1 .left) (c .divider .ensures)
 
 halve-returns-2 : (t : ℕ) → halve-lts.Need-returns-2 (halve-claims t) (halve-at t) halve.Post
 halve-returns-2 t c =
     let l = c .before .recursive-subdivide in
-    meets-halves (c .before .before .before .before .args .left) (l .result) _ _ _ _ (halves t (c .before .before)) (l .ensures) (meets-stop _ _ (c .if2 .taken))
+    meets-halves (c .before .before .before .before .before .before .args .left) (l .result) _ _ _ _ (halves t (c .before .before .before .before)) (l .ensures) (meets-stop _ _ (c .if2 .taken))
 
 halve-sub-subdivide-2 : (t : ℕ) → halve-lts.Need-sub-recursive-subdivide-2 (halve-claims t) (halve-at t) halve.Post
 halve-sub-subdivide-2 t c = omega arith
 
 halve-subdivide-requires-2 : (t : ℕ) → halve-lts.Need-recursive-subdivide-requires-2 (halve-claims t) (halve-at t) halve.Post
-halve-subdivide-requires-2 t c κs = (omega (arith, c .before .before .before .before .pre .0), omega arith)
+halve-subdivide-requires-2 t c κs = (omega (arith, c .before .before .before .before .before .before .pre .0), omega arith)
 
 halve-returns-3 : (t : ℕ) → halve-lts.Need-returns-3 (halve-claims t) (halve-at t) halve.Post
 halve-returns-3 t c =
     let l = c .before .before .recursive-subdivide in
-    meets-halves (c .before .before .before .before .before .args .left) (l .result) _ _ _ _ (halves t (c .before .before .before)) (l .ensures) (c .recursive-subdivide2 .ensures)
+    meets-halves (c .before .before .before .before .before .before .before .args .left) (l .result) _ _ _ _ (halves t (c .before .before .before .before .before)) (l .ensures) (c .recursive-subdivide2 .ensures)
 
 subdivide-terminator-requires : (t : ℕ) → subdivide-lts.Need-terminator-requires (subdivide-claims t) (subdivide-at t) subdivide.Post
 subdivide-terminator-requires t c κs = search needs
@@ -91,7 +92,7 @@ subdivide-collector-requires t c κs = c .before .before .pre .1
 subdivide-returns : (t : ℕ) → subdivide-lts.Need-returns (subdivide-claims t) (subdivide-at t) subdivide.Post
 subdivide-returns t c =
     let a = c .before .before .before .args in
-    meets-one (a .left) _ (a .b .here) _ (c .collector .ensures) (walk-ends (a .view) (a .a) (a .b) (a .depth) (sym (c .before .before .terminator .ensures) ∙ c .before .if1 .taken))
+    meets-one (a .left) _ (a .b) _ (c .collector .ensures) (walk-ends (viewAt (a .lens .now)) (shownAt (a .a) (a .s)) (shownAt (a .b) (a .t)) (a .depth) (sym (c .before .before .terminator .ensures) ∙ c .before .if1 .taken))
 
 subdivide-halve-requires : (t : ℕ) → subdivide-lts.Need-halve-requires (subdivide-claims t) (subdivide-at t) subdivide.Post
 subdivide-halve-requires t c κs =

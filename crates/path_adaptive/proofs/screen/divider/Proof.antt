@@ -3,6 +3,9 @@ use borrow.Author.Needs.{needs}
 use Rattle.path_adaptive.proofs.screen.divider.Statement.{statement}
 use Rattle.path_adaptive.proofs.screen.divider.Tie as tie
 
+view-at-requires : tie.Need-view-at-requires
+view-at-requires c κs = search needs
+
 add-requires : tie.Need-add-requires
 add-requires c κs = search needs
 
@@ -13,7 +16,9 @@ show-requires : tie.Need-show-requires
 show-requires c κs = search needs
 
 returns : tie.Need-returns
-returns c = rw (c .show .ensures, c .before .mul-scalar .ensures, c .before .before .add .ensures)
+returns c =
+    rw (c .show .ensures, c .before .mul-scalar .ensures, c .before .before .add .ensures, c .before .before .before .view-at .ensures)
 
 pub divider-spec : {M : Type 1} → statement M
-divider-spec = tie.close (tie.spec add-requires mul-scalar-requires show-requires returns)
+divider-spec =
+    tie.close (tie.spec view-at-requires add-requires mul-scalar-requires show-requires returns)

@@ -1,43 +1,20 @@
--- `terminator` meets its contract.
-use lib.Ieee.{Float, lt}
+-- `terminator` meets its contract: `ends` of the screen that the numbers are.
+use mathlib.Core.Path.{ap, _∙_}
+use Rattle.path_adaptive.specs.declared.View.{View}
 use Rattle.path_adaptive.specs.Walk.{endsOf}
-use mathlib.Core.Path.{sym, ap, _∙_}
+use Rattle.path_adaptive.specs.InnerSpan.{shownAt}
 use borrow.Author.Needs.{needs}
 use Rattle.path_adaptive.proofs.screen.terminator.Statement.{statement}
 use Rattle.path_adaptive.proofs.screen.terminator.Tie as tie
 
-outside-requires : tie.Need-outside-requires
-outside-requires c κs = search needs
+view-at-requires : tie.Need-view-at-requires
+view-at-requires c κs = search needs
+
+ends-requires : tie.Need-ends-requires
+ends-requires c κs = search needs
 
 returns : tie.Need-returns
-unfolding endsOf
-returns c = simp (sym (c .before .outside .ensures) ∙ c .if1 .taken)
-
-distance-squared-requires : tie.Need-distance-squared-requires
-distance-squared-requires c κs = search needs
-
-returns-2 : tie.Need-returns-2
-unfolding endsOf
-returns-2 c =
-    let a = c .before .before .before .before .before .before .before .args in
-    simp (sym (c .before .before .before .before .outside .ensures) ∙ c .before .before .before .if1 .left, ap (λ (x : Float). lt x (a .view .square)) (sym (c .before .before .distance-squared .ensures)) ∙ c .if2 .taken)
-
-distance-squared-requires-2 : tie.Need-distance-squared-requires-2
-distance-squared-requires-2 c κs = search needs
-
-returns-3 : tie.Need-returns-3
-unfolding endsOf
-returns-3 c =
-    let a = c .before .before .before .before .before .before .before .before .before .before .before .args in
-    simp (sym (c .before .before .before .before .before .before .before .before .outside .ensures) ∙ c .before .before .before .before .before .before .before .if1 .left, ap (λ (x : Float). lt x (a .view .square)) (sym (c .before .before .before .before .before .before .distance-squared .ensures)) ∙ c .before .before .before .before .if2 .left, sym (c .before .distance-squared2 .ensures))
+returns c = c .ends .ensures ∙ ap (λ (v : View). endsOf v (shownAt (c .before .before .args .a) (c .before .before .args .s)) (shownAt (c .before .before .args .b) (c .before .before .args .t))) (c .before .view-at .ensures)
 
 pub terminator-spec : {M : Type 1} → statement M
-terminator-spec =
-    tie.close
-    (tie.spec
-    outside-requires
-    returns
-    distance-squared-requires
-    returns-2
-    distance-squared-requires-2
-    returns-3)
+terminator-spec = tie.close (tie.spec view-at-requires ends-requires returns)

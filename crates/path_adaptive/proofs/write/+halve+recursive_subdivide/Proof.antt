@@ -5,6 +5,7 @@ use lib.ListN.{length}
 use Rattle.path_adaptive.specs.Walk.{Walk, one, join, halved, walk}
 use Rattle.path_adaptive.proofs.Walks.{Both, walk-ends, walk-stuck, walk-half, half-both}
 use Rattle.path_adaptive.proofs.Inks.{inks-are, left-fits, right-fits, both-inks}
+use Rattle.path_adaptive.specs.InnerSpan.{viewAt, shownAt}
 use native.Mathlib.Omega.{arith}
 use mathlib.Core.Bool.{true≢false}
 use mathlib.Core.Path.{_≡_, refl, sym, ap, _∙_}
@@ -23,23 +24,23 @@ use Rattle.path_adaptive.proofs.write.collector.Reads as collector-read
 use Rattle.path_adaptive.proofs.write.+halve+recursive_subdivide.{statement}
 use Rattle.path_adaptive.proofs.write.+halve+recursive_subdivide.Tie.{close}
 
-abbrev μ-halve : Measures 1 halve-kinds.ps ℕ
-μ-halve κs a = 2 * a .1 .1 .1 .0
+abbrev μ-halve : Measures 2 halve-kinds.ps ℕ
+μ-halve κs a = 2 * a .1 .1 .1 .1 .1 .0
 
-abbrev μ-subdivide : Measures 1 subdivide-kinds.ps ℕ
-μ-subdivide κs a = 2 * a .1 .1 .1 .0 + 1
+abbrev μ-subdivide : Measures 2 subdivide-kinds.ps ℕ
+μ-subdivide κs a = 2 * a .1 .1 .1 .1 .1 .0 + 1
 
-abbrev halve-at : ℕ → In 1 halve-kinds.ps
-halve-at t = and 1 halve-kinds.ps (is 1 halve-kinds.ps μ-halve t) halve.Pre
+abbrev halve-at : ℕ → In 2 halve-kinds.ps
+halve-at t = and 2 halve-kinds.ps (is 2 halve-kinds.ps μ-halve t) halve.Pre
 
-abbrev halve-below : ℕ → In 1 halve-kinds.ps
-halve-below t = and 1 halve-kinds.ps (falls 1 halve-kinds.ps _<_ μ-halve t) halve.Pre
+abbrev halve-below : ℕ → In 2 halve-kinds.ps
+halve-below t = and 2 halve-kinds.ps (falls 2 halve-kinds.ps _<_ μ-halve t) halve.Pre
 
-abbrev subdivide-at : ℕ → In 1 subdivide-kinds.ps
-subdivide-at t = and 1 subdivide-kinds.ps (is 1 subdivide-kinds.ps μ-subdivide t) subdivide.Pre
+abbrev subdivide-at : ℕ → In 2 subdivide-kinds.ps
+subdivide-at t = and 2 subdivide-kinds.ps (is 2 subdivide-kinds.ps μ-subdivide t) subdivide.Pre
 
-abbrev subdivide-below : ℕ → In 1 subdivide-kinds.ps
-subdivide-below t = and 1 subdivide-kinds.ps (falls 1 subdivide-kinds.ps _<_ μ-subdivide t) subdivide.Pre
+abbrev subdivide-below : ℕ → In 2 subdivide-kinds.ps
+subdivide-below t = and 2 subdivide-kinds.ps (falls 2 subdivide-kinds.ps _<_ μ-subdivide t) subdivide.Pre
 
 abbrev halve-claims : ℕ → halve-lts.Claims
 halve-claims t = (divider-reads.Asked, divider-reads.Learnt, subdivide-below t, subdivide.Post)
@@ -50,7 +51,7 @@ subdivide-claims t = (terminator-reads.Asked, terminator-reads.Learnt, collector
 halve-returns : (t : ℕ) → halve-lts.Need-returns (halve-claims t) (halve-at t) halve.Post
 halve-returns t c =
     let s = c .before .before in
-    let w = walk-stuck (s .args .view) (s .args .a) (s .args .b) (s .args .depth) (s .pre .1 .0) (c .if1 .taken) in
+    let w = walk-stuck (viewAt (s .args .lens .now)) (shownAt (s .args .a) (s .args .s)) (shownAt (s .args .b) (s .args .t)) (s .args .depth) (s .pre .1 .0) (c .if1 .taken) in
     absurd (true≢false (sym (ap (λ (x : Walk). x .deep) w) ∙ s .pre .1 .1 .calm))
 
 halve-divider-requires : (t : ℕ) → halve-lts.Need-divider-requires (halve-claims t) (halve-at t) halve.Post
@@ -61,47 +62,47 @@ halve-sub-subdivide t c = omega arith
 
 -- its halves
 halves : (t : ℕ) (c : halve-lts.After-divider (halve-claims t) (halve-at t) halve.Post)
-    → let a = c .before .before .before .args in let m = c .divider .result in walk (a .depth) (a .view) (a .a) (a .b) ≡ halved (join (walk (a .depth - 1) (a .view) (a .a) m) (walk (a .depth - 1) (a .view) m (a .b)))
+    → let a = c .before .before .before .args in let m = c .divider .result in walk (a .depth) (viewAt (a .lens .now)) (shownAt (a .a) (a .s)) (shownAt (a .b) (a .t)) ≡ halved (join (walk (a .depth - 1) (viewAt (a .lens .now)) (shownAt (a .a) (a .s)) m) (walk (a .depth - 1) (viewAt (a .lens .now)) m (shownAt (a .b) (a .t))))
 halves t c =
     let s = c .before .before .before in
-    walk-half (s .args .view) (s .args .a) (s .args .b) (s .args .depth) (c .divider .result) (s .pre .1 .0) (c .before .if1 .left) (c .divider .ensures)
+    walk-half (viewAt (s .args .lens .now)) (shownAt (s .args .a) (s .args .s)) (shownAt (s .args .b) (s .args .t)) (s .args .depth) (c .divider .result) (s .pre .1 .0) (c .before .if1 .left) (c .divider .ensures)
 
 both : (t : ℕ) (c : halve-lts.After-divider (halve-claims t) (halve-at t) halve.Post)
-    → let a = c .before .before .before .args in let m = c .divider .result in Both 1 (walk (a .depth - 1) (a .view) (a .a) m) (walk (a .depth - 1) (a .view) m (a .b)) (walk (a .depth) (a .view) (a .a) (a .b))
+    → let a = c .before .before .before .args in let m = c .divider .result in Both 1 (walk (a .depth - 1) (viewAt (a .lens .now)) (shownAt (a .a) (a .s)) m) (walk (a .depth - 1) (viewAt (a .lens .now)) m (shownAt (a .b) (a .t))) (walk (a .depth) (viewAt (a .lens .now)) (shownAt (a .a) (a .s)) (shownAt (a .b) (a .t)))
 both t c = half-both _ _ _ (halves t c) (c .before .before .before .pre .1 .1 .calm)
 
-halve-add-t11 : (t : ℕ) → halve-lts.Need-add-t11 (halve-claims t) (halve-at t) halve.Post
-halve-add-t11 t c = omega (arith, c .before .before .before .before .pre .1 .1 .few-halvings, both t (c .before) .halvings-are)
+halve-add-t15 : (t : ℕ) → halve-lts.Need-add-t15 (halve-claims t) (halve-at t) halve.Post
+halve-add-t15 t c = omega (arith, c .before .before .before .before .before .before .pre .1 .1 .few-halvings, both t (c .before .before .before) .halvings-are)
 
 halve-subdivide-requires : (t : ℕ) → halve-lts.Need-recursive-subdivide-requires (halve-claims t) (halve-at t) halve.Post
 halve-subdivide-requires t c κs =
-    let s = c .before .before .before .before .before in
-    (omega (arith, s .pre .0), left-fits (both t (c .before .before)) refl refl (s .pre .1 .1))
+    let s = c .before .before .before .before .before .before .before in
+    (omega (arith, s .pre .0), left-fits (both t (c .before .before .before .before)) refl refl (s .pre .1 .1))
 
 halve-sub-subdivide-2 : (t : ℕ) → halve-lts.Need-sub-recursive-subdivide-2 (halve-claims t) (halve-at t) halve.Post
 halve-sub-subdivide-2 t c = omega arith
 
 halve-subdivide-requires-2 : (t : ℕ) → halve-lts.Need-recursive-subdivide-requires-2 (halve-claims t) (halve-at t) halve.Post
 halve-subdivide-requires-2 t c κs =
-    let s = c .before .before .before .before .before .before .before .before .before in
-    (omega (arith, s .pre .0), right-fits (both t (c .before .before .before .before .before .before)) refl refl (s .pre .1 .1) (c .before .before .before .recursive-subdivide .ensures))
+    let s = c .before .before .before .before .before .before .before .before .before .before .before in
+    (omega (arith, s .pre .0, c .before .before .before .before .before .before .before .before .before .if1 .left), right-fits (both t (c .before .before .before .before .before .before .before .before)) refl refl (s .pre .1 .1) (c .before .before .before .recursive-subdivide .ensures))
 
 halve-same-length : (t : ℕ) → halve-lts.Need-same-length (halve-claims t) (halve-at t) halve.Post
 halve-same-length t c = search needs
 
 halve-returns-2 : (t : ℕ) → halve-lts.Need-returns-2 (halve-claims t) (halve-at t) halve.Post
 halve-returns-2 t c =
-    both-inks (both t (c .before .before .before .before .before .before .before .before .before)) refl refl (c .before .before .before .before .before .before .recursive-subdivide .ensures) (c .before .before .recursive-subdivide2 .ensures)
+    both-inks (both t (c .before .before .before .before .before .before .before .before .before .before .before)) refl refl (c .before .before .before .before .before .before .recursive-subdivide .ensures) (c .before .before .recursive-subdivide2 .ensures)
 
 subdivide-terminator-requires : (t : ℕ) → subdivide-lts.Need-terminator-requires (subdivide-claims t) (subdivide-at t) subdivide.Post
 subdivide-terminator-requires t c κs = search needs
 
 -- a span that is not halved
 short : (t : ℕ) (c : subdivide-lts.Then1 (subdivide-claims t) (subdivide-at t) subdivide.Post)
-    → let a = c .before .before .before .args in walk (a .depth) (a .view) (a .a) (a .b) ≡ one (a .b .here)
+    → let a = c .before .before .before .args in walk (a .depth) (viewAt (a .lens .now)) (shownAt (a .a) (a .s)) (shownAt (a .b) (a .t)) ≡ one (a .b)
 short t c =
     let a = c .before .before .before .args in
-    walk-ends (a .view) (a .a) (a .b) (a .depth) (sym (c .before .terminator .ensures) ∙ c .if1 .taken)
+    walk-ends (viewAt (a .lens .now)) (shownAt (a .a) (a .s)) (shownAt (a .b) (a .t)) (a .depth) (sym (c .before .terminator .ensures) ∙ c .if1 .taken)
 
 subdivide-collector-requires : (t : ℕ) → subdivide-lts.Need-collector-requires (subdivide-claims t) (subdivide-at t) subdivide.Post
 subdivide-collector-requires t c κs = omega (arith, c .before .before .before .before .pre .1 .few, ap (λ (x : Walk). length (x .points)) (short t (c .before)))
@@ -129,7 +130,7 @@ pub +halve+recursive-subdivide-spec : {M : Type 1} → statement M
     halve.Post
     (halve-returns t)
     (halve-divider-requires t)
-    (halve-add-t11 t)
+    (halve-add-t15 t)
     (halve-sub-subdivide t)
     (halve-subdivide-requires t)
     (halve-sub-subdivide-2 t)
