@@ -156,7 +156,7 @@ fn section_of_one_face_more() {
 
 // A weld of one face too many.
 fn weld_of_one_face_more() {
-    let coords = [0.0; 589833];
+    let coords = [0.0; 9 * MOST_FACES + 9];
     let mut scratch = [0u32; 12];
     let mut vertices = [0.0; 9];
     let mut indices = [0u32; 3];

@@ -17,12 +17,12 @@ use Rattle.path_splice_rule.specs.Demand.{sum, overPairs, one, isPair, drawn}
 use Rattle.path_splice_rule.proofs.Bags.{pair-turn}
 use Rattle.path_splice_rule.proofs.Numbers.{numbers}
 use Rattle.mesh_edges.specs.Edges.{faceOf, nextCorner, lowOf, highOf, pairOf, upFrom, sidesOf, groupsOf, edgesOf}
-use Rattle.mesh_edges.specs.Words.{alike}
-use Rattle.mesh_edges.proofs.Groups.{alike-none, alike-yes, alike-no, edge-first}
+use Rattle.mesh_edges.specs.InnerWords.{alike}
+use Rattle.mesh_edges.proofs.Groups.{alike-yes, alike-no, edge-first}
 use Rattle.mesh_edges.proofs.Ups.{sides-sorted}
 use Rattle.mesh_strokes.specs.Draw.{strokesBy}
 use Rattle.mesh_strokes.proofs.Walks.{stroke-kept, stroke-left}
-use Rattle.demand3.specs.Demand3.{between, those, facesWith, keptBy}
+use Rattle.demand3.specs.Demand3.{between, those, facesWith, keepsSome}
 
 -- ---- those of a list that pass a test
 module _ (q : ℕ → Bool) where
@@ -220,7 +220,7 @@ module _ (keep : List ℕ → Bool) (is : List ℕ) (words : (k : ℕ) → getD 
   count s = drawn eqb a b (strokesBy keep is (groupsOf (pairOf is) s))
 
   abbrev said : List ℕ → ℕ
-  said s = one (keptBy keep (map faceOf (those (between is a b) s)))
+  said s = one (keepsSome keep (map faceOf (those (between is a b) s)))
 
   count-none : count [] ≡ 0
   unfolding drawn sum strokesBy groupsOf
@@ -280,15 +280,15 @@ module _ (keep : List ℕ → Bool) (is : List ℕ) (words : (k : ℕ) → getD 
         go y i (inr q) = q
 
   said-none : said [] ≡ 0
-  unfolding those keptBy
+  unfolding those keepsSome
   said-none = refl
 
   said-of : (l m : List ℕ) → those (between is a b) l ≡ those (between is a b) m → said l ≡ said m
-  said-of l m e = ap (λ (r : List ℕ). one (keptBy keep (map faceOf r))) e
+  said-of l m e = ap (λ (r : List ℕ). one (keepsSome keep (map faceOf r))) e
 
   said-group : (x : ℕ) (xs l : List ℕ) → those (between is a b) l ≡ x ∷ xs → said l ≡ one (keep (map faceOf (x ∷ xs)))
-  unfolding keptBy
-  said-group x xs l e = ap (λ (r : List ℕ). one (keptBy keep (map faceOf r))) e
+  unfolding keepsSome
+  said-group x xs l e = ap (λ (r : List ℕ). one (keepsSome keep (map faceOf r))) e
 
   count-said : (n : ℕ) (s : List ℕ) → length s ≤ n → Sorted (pairOf is) s → count s ≡ said s
   count-said zero [] l S = count-none ∙ sym said-none
@@ -307,7 +307,7 @@ module _ (keep : List ℕ → Bool) (is : List ℕ) (words : (k : ℕ) → getD 
       go (inr h) (inl k) r = omega (arith, count-kept x xs k, hits-none is a b x h, said-of (x ∷ xs) (rest x xs) (rest-is x xs h))
       go (inr h) (inr k) r = omega (arith, count-left x xs k, said-of (x ∷ xs) (rest x xs) (rest-is x xs h))
 
-  pub once : drawn eqb a b (strokesBy keep is (edgesOf is)) ≡ one (keptBy keep (facesWith is a b))
+  pub once : drawn eqb a b (strokesBy keep is (edgesOf is)) ≡ one (keepsSome keep (facesWith is a b))
   unfolding edgesOf sidesOf facesWith
   once =
       count-said (length (sidesOf is)) (sidesOf is) (omega arith) (sides-sorted is)

@@ -28,7 +28,7 @@ use Rattle.mesh.specs.Meshes.{countedOf, allBelow}
 use Rattle.mesh_mode.specs.declared.Mode.{Mode}
 use Rattle.mesh_strokes.specs.Draw.{kept, seenBy, keptOf, drawingOf}
 use Rattle.mesh_strokes.specs.Call as L
-use Rattle.mesh_strokes.proofs.Drawn as D
+use Rattle.mesh_strokes.proofs.DrawingDemand.{drawing-demand3}
 use Rattle.mesh_draw.specs.Call as C
 use Rattle.mesh_draw.specs.declared.Drawing.the-variants as drawing
 use Rattle.demand3.specs.Demand3.{strokesWritten, Draws, keptPair}
@@ -82,8 +82,8 @@ module _ (vs : List Float) (is flips : List ℕ) (s : C.Sight) (l : L.Lent) wher
   abbrev mode : Mode
   mode = C.modeNamed (s .number) (s .cosine)
 
-  abbrev drawn-of : List (List ℕ)
-  drawn-of = drawingOf mode (s .eye) (s .tolerance) flips vs is
+  abbrev the-drawing : List (List ℕ)
+  the-drawing = drawingOf mode (s .eye) (s .tolerance) flips vs is
 
   -- how often each pair is to be drawn: once where it is kept, and else not at all
   abbrev pub onceKept : ℕ → ℕ → ℕ
@@ -101,15 +101,15 @@ module _ (vs : List Float) (is flips : List ℕ) (s : C.Sight) (l : L.Lent) wher
   unfolding keptOf keptPair
   kept-once h a b = once (kept mode (seenBy (s .eye) vs is) flips (s .tolerance)) is (words h) a b
 
-  draw-laid : (p q : ℕ) (l′ : L.Lent) → leaves (C.said (drawing.Wrote p q)) l′ ≡ C.drawLeft vs is flips s l → (verdict ≡ Accepted) × (drawn-of ≡ strokesWritten p q (l′ .points) (l′ .starts))
+  draw-laid : (p q : ℕ) (l′ : L.Lent) → leaves (C.said (drawing.Wrote p q)) l′ ≡ C.drawLeft vs is flips s l → (verdict ≡ Accepted) × (drawing ≡ strokesWritten p q (l′ .points) (l′ .starts))
   unfolding C.drawLeft L.laid
   draw-laid p q l′ e =
       let k = was-accepted _ _ _ _ _ e in
       let g = k .1 in
-      (k .0, read drawn-of (l .points) (l .starts) (l′ .points) (l′ .starts) p q (same-values (ap (λ (o : Outcome L.Lent). o .answer) g)) (ap (λ (o : Outcome L.Lent). o .lent .points) g) (ap (λ (o : Outcome L.Lent). o .lent .starts) g))
+      (k .0, read the-drawing (l .points) (l .starts) (l′ .points) (l′ .starts) p q (same-values (ap (λ (o : Outcome L.Lent). o .answer) g)) (ap (λ (o : Outcome L.Lent). o .lent .points) g) (ap (λ (o : Outcome L.Lent). o .lent .starts) g))
 
   -- whatever an accepted draw leaves: each kept edge once and none invented; then as few open strokes as those edges allow
   pub draw-demand3 : (p q : ℕ) (l′ : L.Lent) → leaves (C.said (drawing.Wrote p q)) l′ ≡ C.drawLeft vs is flips s l → Draws onceKept (strokesWritten p q (l′ .points) (l′ .starts))
   draw-demand3 p q l′ e =
       let g = draw-laid p q l′ e in
-      subst (Draws onceKept) (g .1) (draws (keptOf mode (s .eye) (s .tolerance) flips vs is) drawn-of onceKept (D.drawn mode (s .eye) (s .tolerance) flips vs is) (kept-once (g .0)))
+      subst (Draws onceKept) (g .1) (draws (keptOf mode (s .eye) (s .tolerance) flips vs is) the-drawing onceKept (drawing-demand3 mode (s .eye) (s .tolerance) flips vs is) (kept-once (g .0)))

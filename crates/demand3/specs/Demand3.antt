@@ -43,9 +43,9 @@ unfoldable pub facesWith : List ℕ → ℕ → ℕ → List ℕ
 facesWith is a b = map faceOf (those (between is a b) (upFrom 0 (length is)))
 
 -- a pair that no face has is not kept; one that some have, as the mode says by those faces
-unfoldable pub keptBy : (List ℕ → Bool) → List ℕ → Bool
-keptBy keep [] = false
-keptBy keep (f ∷ fs) = keep (f ∷ fs)
+unfoldable pub keepsSome : (List ℕ → Bool) → List ℕ → Bool
+keepsSome keep [] = false
+keepsSome keep (f ∷ fs) = keep (f ∷ fs)
 
 unfoldable pub keptPair : Mode → Vector → Float → List ℕ → List Float → List ℕ → ℕ → ℕ → Bool
-keptPair mode eye tolerance flips vs is a b = keptBy (kept mode (seenBy eye vs is) flips tolerance) (facesWith is a b)
+keptPair mode eye tolerance flips vs is a b = keepsSome (kept mode (seenBy eye vs is) flips tolerance) (facesWith is a b)

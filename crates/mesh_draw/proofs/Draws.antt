@@ -31,8 +31,8 @@ granted vs is flips s l h =
     rw (both (eqb (length vs % 3) 0) (eqb (length is % 3) 0) shaped .1, both (leb (length vs / 3) mostVertices) (leb (length is / 3) mostFaces) (count .0) .1, scratch .0, rooms .0) (vertex .0)
 
 -- where all fits, drawing in the mode that the number says leaves the drawing
-pub drawn : (vs : List Float) (is flips : List ℕ) (mode said : Mode) (eye : Vector) (tolerance : Float) (s : List ℕ) (f : List Float) (op os : List ℕ) → mode ≡ said
+pub drawing-left : (vs : List Float) (is flips : List ℕ) (mode said : Mode) (eye : Vector) (tolerance : Float) (s : List ℕ) (f : List Float) (op os : List ℕ) → mode ≡ said
     → (fits (length is) (length s) (length f) (length op) (length os) && allBelow (length vs / 3) is) ≡ true
     → strokesLeft vs is flips mode eye tolerance s f op os ≡ laid (drawingOf said eye tolerance flips vs is) s f op os
 unfolding strokesLeft
-drawn vs is flips mode said eye tolerance s f op os m e = rw (e, m)
+drawing-left vs is flips mode said eye tolerance s f op os m e = rw (e, m)

@@ -11,7 +11,7 @@ use Rattle.refusal.specs.Limits.{mostFaces}
 use Rattle.order.specs.Regions.{region, put}
 use Rattle.order.proofs.Parts.{region-put, put-put, put-append}
 use Rattle.mesh_edges.specs.Edges.{lowOf, highOf, pairOf, upFrom, sidesOf, groupsOf, edgesOf}
-use Rattle.mesh_edges.specs.Words.{flagOf, wordsOf, edgesIn, pairIn}
+use Rattle.mesh_edges.specs.InnerWords.{flagOf, sideWords, edgesIn, pairIn}
 use Rattle.mesh_edges.specs.InnerSteps.{plainWords, Below, marks, flagAll}
 use Rattle.mesh_edges.proofs.Ups.{map-length, sides-length, side-below, sides-below}
 use Rattle.mesh_edges.proofs.Groups.{groups-agree}
@@ -27,7 +27,7 @@ pub edges-short : (s is flips : List ℕ) → length s < 5 * length is → s ≡
 unfolding edgesIn
 edges-short s is flips h = rw (lt-leb (5 * length is) (length s) h) (go (leb (length is) (3 * mostFaces)))
   where
-    go : (b : Bool) → s ≡ cond (b && false) (put s 0 (wordsOf is flips)) s
+    go : (b : Bool) → s ≡ cond (b && false) (put s 0 (sideWords is flips)) s
     go true = refl
     go false = refl
 
@@ -76,7 +76,7 @@ module _ (s is : List ℕ) (H : 5 * length is ≤ length s) (t : List ℕ) (e : 
 
   pub edges-all : length is ≤ 3 * mostFaces → (flips w : List ℕ) → w ≡ put t (4 * length is) (flagAll (marks (groupsOf (pairIn t (length is)) (region t (2 * length is) (length is))) (replicate (length is) 0)) flips (region t (4 * length is) (length is)))
       → w ≡ edgesIn s is flips
-  unfolding wordsOf
+  unfolding sideWords
   edges-all few flips w q =
       let G = map (flagOf is flips) (upFrom 0 n) in
       q ∙ ap (λ (gs : List (List ℕ)). put t (4 * n) (flagAll (marks gs Z) flips (region t (4 * n) n))) groups

@@ -13,7 +13,7 @@ use borrow.Author.Tests.{le-leb, lt-leb}
 use Rattle.order.specs.Regions.{region}
 use Rattle.order.proofs.Tests.{eqb-false, eqb-self}
 use Rattle.order.proofs.Parts.{length-region, get-region}
-use Rattle.mesh_edges.specs.Words.{alike, pairIn, endIn}
+use Rattle.mesh_edges.specs.InnerWords.{alike, pairIn, endIn}
 use Rattle.mesh_edges.proofs.Groups.{alike-none, alike-yes, alike-no}
 
 module _ (s : List ℕ) (n : ℕ) (H : 5 * n ≤ length s) where

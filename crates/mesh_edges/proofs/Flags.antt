@@ -13,7 +13,7 @@ use lib.Seq.{getD-set-same, getD-set-other, drop-cons, ext-getD}
 use Rattle.order.proofs.Tests.{truth, clash, eqb-false, eqb-self, le-or}
 use Rattle.mesh_edges.specs.Edges.{faceOf, upFrom, edgesOf}
 use Rattle.mesh_edges.specs.Flips.{flipped}
-use Rattle.mesh_edges.specs.Words.{flagBy, flagOf}
+use Rattle.mesh_edges.specs.InnerWords.{flagBy, flagOf}
 use Rattle.mesh_edges.specs.InnerSteps.{mateOn, flagAt, flagPair, flagAll, marks}
 use Rattle.mesh_edges.proofs.Ups.{map-at, map-length}
 use Rattle.mesh_edges.proofs.Mates.{marks-at, edges-apart}

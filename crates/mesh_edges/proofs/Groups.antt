@@ -13,7 +13,7 @@ use Rattle.order.specs.Regions.{region}
 use Rattle.order.proofs.Tests.{truth, eqb-true}
 use Rattle.order.proofs.Sorted.{In}
 use Rattle.mesh_edges.specs.Edges.{grow, groupsOf}
-use Rattle.mesh_edges.specs.Words.{alike}
+use Rattle.mesh_edges.specs.InnerWords.{alike}
 
 module _ (key : ℕ → ℕ) where
   pub alike-none : (x : ℕ) → alike key x [] ≡ 0

@@ -8,4 +8,3 @@ pub mod Filling
 pub mod Mating
 pub mod Flipping
 pub mod Edging
-pub mod Walking

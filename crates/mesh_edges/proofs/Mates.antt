@@ -13,8 +13,8 @@ use Rattle.order.proofs.Tests.{eqb-false, eqb-self}
 use Rattle.order.proofs.Sorted.{In, Sorted}
 use Rattle.mesh_edges.specs.Edges.{faceOf, pairOf, sidesOf, edgesOf}
 use Rattle.mesh_edges.specs.Flips.{flipped}
-use Rattle.mesh_edges.specs.Words.{mateIn, flagBy, flagOf}
-use Rattle.mesh_edges.specs.InnerSteps.{mark, marks}
+use Rattle.mesh_edges.specs.InnerWords.{mateIn, flagBy, flagOf}
+use Rattle.mesh_edges.specs.InnerSteps.{mateMark, marks}
 use Rattle.mesh_edges.proofs.Groups.{joined, joined-append, join-groups, Evens, evens-after, even-groups}
 use Rattle.mesh_edges.proofs.Ups.{sides-sorted}
 
@@ -72,7 +72,7 @@ orElse zero d = d
 orElse (suc m) d = suc m
 
 pub marks-size : (gs : List (List ℕ)) (m : List ℕ) → length (marks gs m) ≡ length m
-unfolding marks mark
+unfolding marks mateMark
 marks-size [] m = refl
 marks-size ([] ∷ gs) m = marks-size gs m
 marks-size ((a ∷ []) ∷ gs) m = marks-size gs m
@@ -80,7 +80,7 @@ marks-size ((a ∷ b ∷ []) ∷ gs) m = marks-size gs (set m a (suc b)) ∙ len
 marks-size ((a ∷ b ∷ c ∷ g) ∷ gs) m = marks-size gs m
 
 marks-get : (gs : List (List ℕ)) (m : List ℕ) (k : ℕ) → k < length m → Apart (joined gs) → getD (marks gs m) k 0 ≡ orElse (mateIn gs k) (getD m k 0)
-unfolding marks mark mateIn
+unfolding marks mateMark mateIn
 marks-get [] m k h A = refl
 marks-get ([] ∷ gs) m k h A = marks-get gs m k h A
 marks-get ((a ∷ []) ∷ gs) m k h A = marks-get gs m k h (A .1)

@@ -11,27 +11,27 @@ use Rattle.order.specs.Regions.{region, put, Into}
 use Rattle.order.proofs.Sorted.{In, at-in}
 use Rattle.order.proofs.Parts.{length-region, get-region, put-region, put-put, set-put, into-none, into-size, into-get, into-region, into-own}
 use Rattle.mesh_edges.specs.Edges.{groupsOf}
-use Rattle.mesh_edges.specs.Words.{alike, pairIn, endIn}
-use Rattle.mesh_edges.specs.InnerSteps.{Below, mark, marks}
+use Rattle.mesh_edges.specs.InnerWords.{alike, pairIn, endIn}
+use Rattle.mesh_edges.specs.InnerSteps.{Below, mateMark, marks}
 use Rattle.mesh_edges.proofs.Groups.{group-at, alike-le, alike-agree}
 use Rattle.mesh_edges.proofs.Ends.{end-from}
 
-mark-two : (g m : List ℕ) → length g ≡ 2 → mark g m ≡ set m (getD g 0 0) (suc (getD g 1 0))
-unfolding mark
+mark-two : (g m : List ℕ) → length g ≡ 2 → mateMark g m ≡ set m (getD g 0 0) (suc (getD g 1 0))
+unfolding mateMark
 mark-two [] m h = absurd (omega arith)
 mark-two (a ∷ []) m h = absurd (omega arith)
 mark-two (a ∷ b ∷ []) m h = refl
 mark-two (a ∷ b ∷ c ∷ g) m h = absurd (omega arith)
 
-mark-other : (g m : List ℕ) → length g ≢ 2 → mark g m ≡ m
-unfolding mark
+mark-other : (g m : List ℕ) → length g ≢ 2 → mateMark g m ≡ m
+unfolding mateMark
 mark-other [] m h = refl
 mark-other (a ∷ []) m h = refl
 mark-other (a ∷ b ∷ []) m h = absurd (h refl)
 mark-other (a ∷ b ∷ c ∷ g) m h = refl
 
-mark-length : (g m : List ℕ) → length (mark g m) ≡ length m
-unfolding mark
+mark-length : (g m : List ℕ) → length (mateMark g m) ≡ length m
+unfolding mateMark
 mark-length [] m = refl
 mark-length (a ∷ []) m = refl
 mark-length (a ∷ b ∷ []) m = length-set m a (suc b)
@@ -41,7 +41,7 @@ marks-none : (m : List ℕ) → marks [] m ≡ m
 unfolding marks
 marks-none m = refl
 
-marks-cons : (g : List ℕ) (gs : List (List ℕ)) (m : List ℕ) → marks (g ∷ gs) m ≡ marks gs (mark g m)
+marks-cons : (g : List ℕ) (gs : List (List ℕ)) (m : List ℕ) → marks (g ∷ gs) m ≡ marks gs (mateMark g m)
 unfolding marks
 marks-cons g gs m = refl
 
@@ -57,10 +57,10 @@ module _ (s : List ℕ) (n p q : ℕ) (H : 5 * n ≤ length s) (h : p < q) (r : 
   long : length G ≡ q - p
   long = length-region (region s (2 * n) n) p (q - p) (omega (arith, length-region s (2 * n) n (omega arith)))
 
-  pub mate-no : q ≢ p + 2 → s ≡ put s (3 * n) (mark (region (region s (2 * n) n) p (q - p)) (region s (3 * n) n))
+  pub mate-no : q ≢ p + 2 → s ≡ put s (3 * n) (mateMark (region (region s (2 * n) n) p (q - p)) (region s (3 * n) n))
   mate-no e = put-region s (3 * n) n (omega arith) ∙ ap (put s (3 * n)) (sym (mark-other G (region s (3 * n) n) (λ k. e (omega (arith, long)))))
 
-  pub mate-yes : q ≡ p + 2 → Below s n → set s (3 * n + getD s (2 * n + p) 0) (getD s (2 * n + p + 1) 0 + 1) ≡ put s (3 * n) (mark (region (region s (2 * n) n) p (q - p)) (region s (3 * n) n))
+  pub mate-yes : q ≡ p + 2 → Below s n → set s (3 * n + getD s (2 * n + p) 0) (getD s (2 * n + p + 1) 0 + 1) ≡ put s (3 * n) (mateMark (region (region s (2 * n) n) p (q - p)) (region s (3 * n) n))
   mate-yes e B =
       let M = region s (3 * n) n in
       let a = getD s (2 * n + p) 0 in
@@ -70,7 +70,7 @@ module _ (s : List ℕ) (n p q : ℕ) (H : 5 * n ≤ length s) (h : p < q) (r : 
       let lm : length M ≡ n = length-region s (3 * n) n (omega arith) in
       let g0 : getD G 0 0 ≡ a = get-region (region s (2 * n) n) p (q - p) 0 (omega arith) ∙ ap (λ (z : ℕ). getD (region s (2 * n) n) z 0) i ∙ get-region s (2 * n) n p (omega arith) in
       let g1 : getD G 1 0 ≡ b = get-region (region s (2 * n) n) p (q - p) 1 (omega arith) ∙ get-region s (2 * n) n (p + 1) (omega arith) ∙ ap (λ (z : ℕ). getD s z 0) j in
-      let k : set M a (b + 1) ≡ mark G M =
+      let k : set M a (b + 1) ≡ mateMark G M =
       sym (mark-two G M (omega (arith, long)) ∙ ap (λ (z : ℕ). set M z (suc (getD G 1 0))) g0 ∙ ap (λ (z : ℕ). set M a (suc z)) g1 ∙ ap (set M a) (sym (add-one b))) in
       ap (λ (z : List ℕ). set z (3 * n + a) (b + 1)) (put-region s (3 * n) n (omega arith)) ∙ set-put s (3 * n) M a (b + 1) (omega (arith, B p (omega arith), lm)) ∙ ap (put s (3 * n)) k
 
@@ -141,16 +141,16 @@ module _ (s₀ : List ℕ) (n : ℕ) (H : 5 * n ≤ length s₀) (B : Below s₀
       group-is : (q : ℕ) → q ≡ endIn s n p → groupsOf key (drop p R) ≡ region R p (q - p) ∷ groupsOf key (drop q R)
       group-is q e = group-at key R p (omega (arith, lr)) q (e ∙ end-is ∙ ap (λ (z : ℕ). p + 1 + alike key z (drop (p + 1) R)) (sym (get-region s₀ (2 * n) n p h)))
 
-      pub mating-more : (q : ℕ) → q ≡ endIn s n p → (s′ : List ℕ) → s′ ≡ put s (3 * n) (mark (region (region s (2 * n) n) p (q - p)) (region s (3 * n) n)) → Mating s′ q
+      pub mating-more : (q : ℕ) → q ≡ endIn s n p → (s′ : List ℕ) → s′ ≡ put s (3 * n) (mateMark (region (region s (2 * n) n) p (q - p)) (region s (3 * n) n)) → Mating s′ q
       mating-more q e s′ w =
           let g = region R p (q - p) in
           let own : region s (3 * n) n ≡ I .l = into-own s₀ s (3 * n) n (P p) I (omega arith) in
-          let a : s′ ≡ put s (3 * n) (mark g (I .l)) = w ∙ ap (λ (z : List ℕ). put s (3 * n) (mark (region z p (q - p)) (region s (3 * n) n))) m-sides ∙ ap (λ (z : List ℕ). put s (3 * n) (mark g z)) own in
-          let l : length (mark g (I .l)) ≡ n = mark-length g (I .l) ∙ I .size in
+          let a : s′ ≡ put s (3 * n) (mateMark g (I .l)) = w ∙ ap (λ (z : List ℕ). put s (3 * n) (mateMark (region z p (q - p)) (region s (3 * n) n))) m-sides ∙ ap (λ (z : List ℕ). put s (3 * n) (mateMark g z)) own in
+          let l : length (mateMark g (I .l)) ≡ n = mark-length g (I .l) ∙ I .size in
           record {
-            l = mark g (I .l);
+            l = mateMark g (I .l);
             size = l;
-            is = a ∙ ap (λ (z : List ℕ). put z (3 * n) (mark g (I .l))) (I .is) ∙ put-put s₀ (3 * n) (I .l) (mark g (I .l)) (I .size ∙ sym l);
+            is = a ∙ ap (λ (z : List ℕ). put z (3 * n) (mateMark g (I .l))) (I .is) ∙ put-put s₀ (3 * n) (I .l) (mateMark g (I .l)) (I .size ∙ sym l);
             ok = sym (ap (λ (gs : List (List ℕ)). marks gs (I .l)) (group-is q e) ∙ marks-cons g (groupsOf key (drop q R)) (I .l)) ∙ I .ok;
           }
 

@@ -11,10 +11,10 @@ use borrow.Author.Tests.{le-leb}
 use lib.Dec.{leb}
 use Rattle.refusal.specs.Limits.{mostFaces}
 use Rattle.order.specs.Regions.{region, put}
-use Rattle.order.proofs.Parts.{length-put, length-region, get-region, region-put, get-off}
+use Rattle.order.proofs.Parts.{length-put, length-region, get-region, region-put}
 use Rattle.order.proofs.Sorted.{In}
 use Rattle.mesh_edges.specs.Edges.{lowOf, highOf, pairOf, upFrom, sidesOf, groupsOf}
-use Rattle.mesh_edges.specs.Words.{flagOf, wordsOf, edgesIn, pairIn, alike, endIn}
+use Rattle.mesh_edges.specs.InnerWords.{flagOf, sideWords, edgesIn, pairIn, alike, endIn}
 use Rattle.mesh_edges.proofs.Ups.{map-at, map-length, sides-length, side-below, sides-below}
 use Rattle.mesh_edges.proofs.Groups.{alike-agree, group-at, group-within}
 use Rattle.mesh_edges.proofs.Ends.{end-from}
@@ -135,7 +135,7 @@ module _ (t is d f : List ℕ) (ld : length d ≡ length is) (lf : length f ≡ 
       ∙ ap (λ (z : ℕ). p + 1 + z) (alike-agree (pairIn t n) (pairOf is) x (drop (p + 1) (sidesOf is)) (said-pair x (side-below is p h)) (λ y i. said-pair y (sides-below is y (in-drop (p + 1) (sidesOf is) y i))))
 
 -- a list that begins with the words of the edges: for callers
-module _ (t is flips : List ℕ) (e : take (5 * length is) t ≡ wordsOf is flips) where
+module _ (t is flips : List ℕ) (e : take (5 * length is) t ≡ sideWords is flips) where
   abbrev zeros : List ℕ
   zeros = replicate (length is) 0
 
@@ -143,7 +143,7 @@ module _ (t is flips : List ℕ) (e : take (5 * length is) t ≡ wordsOf is flip
   flags = map (flagOf is flips) (upFrom 0 (length is))
 
   words : take (5 * length is) t ≡ map (lowOf is) (upFrom 0 (length is)) ++ map (highOf is) (upFrom 0 (length is)) ++ sidesOf is ++ replicate (length is) 0 ++ map (flagOf is flips) (upFrom 0 (length is))
-  unfolding wordsOf
+  unfolding sideWords
   words = e
 
   lz : length zeros ≡ length is
@@ -174,8 +174,8 @@ module _ (t is flips : List ℕ) (e : take (5 * length is) t ≡ wordsOf is flip
   pub words-group : (p : ℕ) → p < length is → (q : ℕ) → q ≡ endIn t (length is) p → groupsOf (pairOf is) (drop p (sidesOf is)) ≡ region (sidesOf is) p (q - p) ∷ groupsOf (pairOf is) (drop q (sidesOf is))
   words-group p h q w = group-at (pairOf is) (sidesOf is) p (omega (arith, sides-length is)) q (w ∙ words-end p h)
 
-pub words-length : (is flips : List ℕ) → length (wordsOf is flips) ≡ 5 * length is
-unfolding wordsOf
+pub words-length : (is flips : List ℕ) → length (sideWords is flips) ≡ 5 * length is
+unfolding sideWords
 words-length is flips =
     let n = length is in
     let a = map (lowOf is) (upFrom 0 n) in
@@ -196,17 +196,17 @@ words-length is flips =
 
 -- what `edges` leaves
 module _ (s is flips : List ℕ) (few : length is ≤ 3 * mostFaces) (room : 5 * length is ≤ length s) where
-  pub edges-put : edgesIn s is flips ≡ put s 0 (wordsOf is flips)
+  pub edges-put : edgesIn s is flips ≡ put s 0 (sideWords is flips)
   unfolding edgesIn
   edges-put = rw (le-leb (length is) (3 * mostFaces) few, le-leb (5 * length is) (length s) room)
 
-  pub edges-words : take (5 * length is) (edgesIn s is flips) ≡ wordsOf is flips
-  edges-words = ap (take (5 * length is)) edges-put ∙ region-put s 0 (5 * length is) (wordsOf is flips) (words-length is flips) (omega arith)
+  pub edges-words : take (5 * length is) (edgesIn s is flips) ≡ sideWords is flips
+  edges-words = ap (take (5 * length is)) edges-put ∙ region-put s 0 (5 * length is) (sideWords is flips) (words-length is flips) (omega arith)
 
 pub edges-length : (s is flips : List ℕ) → length (edgesIn s is flips) ≡ length s
 unfolding edgesIn
 edges-length s is flips = go (leb (length is) (3 * mostFaces) && leb (5 * length is) (length s))
   where
-    go : (b : Bool) → length (cond b (put s 0 (wordsOf is flips)) s) ≡ length s
-    go true = length-put s 0 (wordsOf is flips)
+    go : (b : Bool) → length (cond b (put s 0 (sideWords is flips)) s) ≡ length s
+    go true = length-put s 0 (sideWords is flips)
     go false = refl

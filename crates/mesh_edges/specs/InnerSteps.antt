@@ -27,16 +27,16 @@ abbrev pub Below : List ℕ → ℕ → Type 0
 Below s n = (k : ℕ) → k < n → getD s (2 * n + k) 0 < n
 
 -- of two sides the second one, plus 1, at the place of the first; any other number of sides changes nothing
-unfoldable pub mark : List ℕ → List ℕ → List ℕ
-mark [] m = m
-mark (a ∷ []) m = m
-mark (a ∷ b ∷ []) m = set m a (suc b)
-mark (a ∷ b ∷ c ∷ g) m = m
+unfoldable pub mateMark : List ℕ → List ℕ → List ℕ
+mateMark [] m = m
+mateMark (a ∷ []) m = m
+mateMark (a ∷ b ∷ []) m = set m a (suc b)
+mateMark (a ∷ b ∷ c ∷ g) m = m
 
 -- group after group
 unfoldable pub marks : List (List ℕ) → List ℕ → List ℕ
 marks [] m = m
-marks (g ∷ gs) m = marks gs (mark g m)
+marks (g ∷ gs) m = marks gs (mateMark g m)
 
 -- whether a word is a side of face y, plus 1
 unfoldable pub mateOn : ℕ → ℕ → Bool

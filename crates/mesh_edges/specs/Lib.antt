@@ -1,4 +1,4 @@
 pub mod Edges
 pub mod Flips
-pub mod Words
+pub mod InnerWords
 pub mod InnerSteps

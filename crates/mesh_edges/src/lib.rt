@@ -8,8 +8,8 @@ ghost use lib.ListN.{length, getD, replicate};
 ghost use Rattle.refusal.specs.Limits.{mostFaces};
 ghost use Rattle.order.specs.Regions.{region, put};
 ghost use Rattle.mesh_edges.specs.Edges.{nextCorner, lowOf, highOf, groupsOf};
-ghost use Rattle.mesh_edges.specs.Words.{edgesIn, endIn, pairIn};
-ghost use Rattle.mesh_edges.specs.InnerSteps.{sidesTo, byPairs, plainWords, Below, mark, marks, mateOn, flagAt, flagPair, flagAll};
+ghost use Rattle.mesh_edges.specs.InnerWords.{edgesIn, endIn, pairIn};
+ghost use Rattle.mesh_edges.specs.InnerSteps.{sidesTo, byPairs, plainWords, Below, mateMark, marks, mateOn, flagAt, flagPair, flagAll};
 
 // The word at place i, 0 past the end.
 fn word_in(s: &[u32], i: usize) -> u64
@@ -140,7 +140,7 @@ fn sides(indices: &[u32], s: &mut [u32], n: usize)
 fn mate(s: &mut [u32], n: usize, p: usize, q: usize)
     requires { ⌜ (5 * n ≤ length (now s)) × (n ≤ 3 * mostFaces) × (p < q) × (q ≤ n) ⌝ }
     requires { ⌜ Below (now s) n ⌝ }
-    ensures { λ _. ⌜ now (s .exit) ≡ put (now (s .entry)) (3 * n) (mark (region (region (now (s .entry)) (2 * n) n) p (q - p)) (region (now (s .entry)) (3 * n) n)) ⌝ }
+    ensures { λ _. ⌜ now (s .exit) ≡ put (now (s .entry)) (3 * n) (mateMark (region (region (now (s .entry)) (2 * n) n) p (q - p)) (region (now (s .entry)) (3 * n) n)) ⌝ }
 {
     if q != p + 2 {
         return;

@@ -9,9 +9,9 @@ use Rattle.mesh_section.specs.declared.Hit.the-variants.{At, Nothing}
 use Rattle.mesh_section.specs.Section.{runsAlong, within, riseOf, segmentHit}
 
 module _ (p : Plane) (tolerance : Float) (v0 v1 : Vector) (d : Float) (rise : d ≡ riseOf p v0 v1) where
-  pub along : runsAlong tolerance d ≡ true → Nothing ≡ segmentHit p tolerance v0 v1
+  pub misses-along : runsAlong tolerance d ≡ true → Nothing ≡ segmentHit p tolerance v0 v1
   unfolding segmentHit
-  along t = rw (← rise, t)
+  misses-along t = rw (← rise, t)
 
   module _ (m : Float) (dot : m ≡ dotOf (p .normal) (subOf v0 (p .point))) where
     -- whether it runs along or not

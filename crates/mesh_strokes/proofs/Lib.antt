@@ -2,6 +2,6 @@ pub mod Tests
 pub mod Walks
 pub mod Seens
 pub mod Steps
-pub mod Drawn
+pub mod DrawingDemand
 pub mod Cases
 pub mod Unique

@@ -18,20 +18,20 @@ use Rattle.path.specs.Laid.{over, joined, startsFrom}
 use Rattle.path.proofs.Tests.{both}
 use Rattle.path_splice_rule.specs.Splice.{splice}
 use Rattle.path_splice.specs.Call as S
-use Rattle.path_splice.specs.InnerPairs.{pairsOf, fits, pairsLeft}
+use Rattle.path_splice.specs.InnerPairs.{pairsOf, pairsFit, pairsLeft}
 use Rattle.path_splice.specs.InnerText.{LaidOut}
 use Rattle.mesh.specs.Meshes.{allBelow}
 use Rattle.mesh_mode.specs.declared.Mode.{Mode}
-use Rattle.mesh_edges.specs.Words.{edgesIn}
+use Rattle.mesh_edges.specs.InnerWords.{edgesIn}
 use Rattle.mesh_edges.proofs.Said.{edges-words}
 use Rattle.mesh_strokes.specs.Draw.{drawingOf}
 use Rattle.mesh_strokes.specs.InnerWalk.{Room, Listed, KeptIn, lookIn, flipsFor, Fitting}
-use Rattle.mesh_strokes.specs.Call.{left, laid, scratchFor, roomFor, fits as fitsOf, strokesLeft}
+use Rattle.mesh_strokes.specs.Call.{left, laid, scratchFor, roomFor, fits, strokesLeft}
 use Rattle.mesh_strokes.proofs.Seens.{kept-edges}
 
 -- ---- what the test promises
-pub granted : (is : List ℕ) (words numbers room startRoom : ℕ) → fitsOf (length is) words numbers room startRoom ≡ true → Fitting is words numbers room startRoom
-unfolding fitsOf scratchFor roomFor
+pub granted : (is : List ℕ) (words numbers room startRoom : ℕ) → fits (length is) words numbers room startRoom ≡ true → Fitting is words numbers room startRoom
+unfolding fits scratchFor roomFor
 granted is words numbers room startRoom h =
     let f = both (eqb (length is % 3) 0 && leb (length is / 3) mostFaces && (leb (64 * (length is / 3)) words && leb (4 * (length is / 3)) numbers)) (leb (6 * (length is / 3)) room && leb (3 * (length is / 3)) startRoom) h in
     let g = both (eqb (length is % 3) 0 && leb (length is / 3) mostFaces) (leb (64 * (length is / 3)) words && leb (4 * (length is / 3)) numbers) (f .0) in
@@ -53,8 +53,8 @@ module _ (is : List ℕ) (words numbers room startRoom : ℕ) (F : Fitting is wo
 
   -- the kept edges fit
   pub fitting : (m : ℕ) (s op os : List ℕ) → length s ≡ words → m ≤ length is → length op ≡ room → length os ≡ startRoom
-      → fits m (length (drop (5 * length is) s)) (length op) (length os) ≡ true
-  unfolding fits
+      → pairsFit m (length (drop (5 * length is) s)) (length op) (length os) ≡ true
+  unfolding pairsFit
   fitting m s op os e h p q =
       let l : length (drop (5 * length is) s) ≡ words - 5 * length is = length-drop (5 * length is) s ∙ ap (λ (w : ℕ). w - 5 * length is) e in
       rw (
@@ -72,7 +72,7 @@ all-after s a = take-all (length s - a) (drop a s) (omega (arith, length-drop a 
 first-two : (a b c d : ℕ) → _≡_ {A = Said ℕ} (accepted (a ∷ b ∷ [])) (accepted (c ∷ d ∷ [])) → (a ≡ c) × (b ≡ d)
 first-two a b c d e = (ap (λ (s : Said ℕ). getD (s .values) 0 0) e, ap (λ (s : Said ℕ). getD (s .values) 1 0) e)
 
-pub spliced : (t t′ op os op′ os′ : List ℕ) (m p q : ℕ) → fits m (length t) (length op) (length os) ≡ true
+pub spliced : (t t′ op os op′ os′ : List ℕ) (m p q : ℕ) → pairsFit m (length t) (length op) (length os) ≡ true
     → S.left (accepted (p ∷ q ∷ [])) t′ op′ os′ ≡ pairsLeft t m op os → LaidOut (splice 0 eqb (pairsOf (take (2 * m) t))) op os op′ os′ p q
 unfolding pairsLeft S.laid
 spliced t t′ op os op′ os′ m p q f e =
@@ -96,12 +96,12 @@ drawing-of mode eye tolerance flips vs is l s t u m words numbers room startRoom
 
 -- ---- the two returns
 module _ (vs : List Float) (is flips : List ℕ) (mode : Mode) (eye : Vector) (tolerance : Float) (s : List ℕ) (f : List Float) (op os : List ℕ) where
-  pub strokes-yes : (s′ : List ℕ) (f′ : List Float) (op′ os′ : List ℕ) (p q : ℕ) → (fitsOf (length is) (length s) (length f) (length op) (length os) && allBelow (length vs / 3) is) ≡ true
+  pub strokes-yes : (s′ : List ℕ) (f′ : List Float) (op′ os′ : List ℕ) (p q : ℕ) → (fits (length is) (length s) (length f) (length op) (length os) && allBelow (length vs / 3) is) ≡ true
       → s′ ≡ replicate (length s) 0 → f′ ≡ replicate (length f) zero64 → LaidOut (drawingOf mode eye tolerance flips vs is) op os op′ os′ p q
       → left (accepted (p ∷ q ∷ [])) s′ f′ op′ os′ ≡ strokesLeft vs is flips mode eye tolerance s f op os
   unfolding strokesLeft laid
   strokes-yes s′ f′ op′ os′ p q e es ef L = rw (e, es, ef, L .points, L .starts, L .many, L .strokes)
 
-  pub strokes-no : (fitsOf (length is) (length s) (length f) (length op) (length os) && allBelow (length vs / 3) is) ≡ false → left (accepted (0 ∷ 0 ∷ [])) s f op os ≡ strokesLeft vs is flips mode eye tolerance s f op os
+  pub strokes-no : (fits (length is) (length s) (length f) (length op) (length os) && allBelow (length vs / 3) is) ≡ false → left (accepted (0 ∷ 0 ∷ [])) s f op os ≡ strokesLeft vs is flips mode eye tolerance s f op os
   unfolding strokesLeft
   strokes-no e = rw e

@@ -1,29 +1,27 @@
 -- The walk over the edges: what a turn of it writes.
 use mathlib.Core.Path.{_≡_, refl, sym, ap, _∙_, subst}
-use mathlib.Core.Logic.{_⊎_, inl, inr}
+use mathlib.Core.Logic.{inr}
 use mathlib.Core.Bool.{Bool, true, false, cond}
 use mathlib.Core.List.{List, [], _∷_, _++_, map, append-nil, append-assoc}
-use Prim.Native.Nat.{ℕ, zero, suc, _+_, _-_, _*_, _/_, _<_, _≤_, min, max}
+use Prim.Native.Nat.{ℕ, zero, suc, _+_, _-_, _*_, _<_, _≤_}
 use native.Mathlib.Omega.{arith}
 use native.Mathlib.Numerals.{add-one}
-use lib.ListN.{length, getD, set, take, drop, length-set, length-drop, length-map, drop-of-length-le}
+use lib.ListN.{length, getD, set, take, drop, length-set, length-drop, drop-of-length-le}
 use lib.Seq.{drop-cons, drop-drop, ext-getD, getD-drop, getD-set-same, take-suc, take-set-le}
 use lib.Dec.{eqb}
 use lib.Ieee.{Float}
-use Rattle.refusal.specs.Limits.{mostFaces}
 use Rattle.order.specs.Regions.{region, put}
 use Rattle.order.proofs.Parts.{length-region, get-region, region-off}
 use Rattle.path_splice.specs.InnerPairs.{pairsOf}
 use Rattle.mesh_mode.specs.declared.Mode.{Mode}
 use Rattle.mesh_mode.specs.declared.Mode.the-variants.{Triangles, Polygonal, Silhouette}
 use Rattle.mesh_edges.specs.Edges.{faceOf, lowOf, highOf, pairOf, sidesOf, groupsOf, edgesOf}
-use Rattle.mesh_edges.specs.Flips.{flipped}
-use Rattle.mesh_edges.specs.Words.{flagOf, wordsOf, alike, endIn}
+use Rattle.mesh_edges.specs.InnerWords.{flagOf, sideWords, alike, endIn}
 use Rattle.mesh_edges.proofs.Groups.{edge-first, alike-le}
 use Rattle.mesh_edges.proofs.Ups.{sides-length, side-below}
 use Rattle.mesh_edges.proofs.Mates.{flag-two}
 use Rattle.mesh_edges.proofs.Said.{words-low, words-high, words-side, words-flag, words-end}
-use Rattle.mesh_keep.specs.Keep.{Seen, keptBy, facesOf, seenIn}
+use Rattle.mesh_keep.specs.Keep.{Seen, keptBy, facesOf}
 use Rattle.mesh_strokes.specs.Draw.{flipOf, kept, strokesBy}
 use Rattle.mesh_strokes.specs.InnerWalk.{Room, flipAt, withPair, Written, written, edgeKept}
 
@@ -143,7 +141,7 @@ module _ (is : List ℕ) (p q : ℕ) (h : p < length is) (eq : q ≡ p + 1 + ali
 
 -- ---- a turn of the walk
 module _ (mode : Mode) (seen : Seen) (tolerance : Float) (is s flips : List ℕ) (p q m : ℕ) (h : p < length is) (R : Room s (length is))
-    (words : take (5 * length is) s ≡ wordsOf is flips) (eq : q ≡ endIn s (length is) p) (few : m ≤ p) where
+    (words : take (5 * length is) s ≡ sideWords is flips) (eq : q ≡ endIn s (length is) p) (few : m ≤ p) where
   abbrev keep : List ℕ → Bool
   keep = kept mode seen flips tolerance
 

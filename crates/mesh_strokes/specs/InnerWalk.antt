@@ -15,7 +15,7 @@ use Rattle.mesh_mode.specs.declared.Mode.{Mode}
 use Rattle.mesh_mode.specs.Modes.{needsOf}
 use Rattle.mesh_seen.specs.Seen.{seenFrom}
 use Rattle.mesh_edges.specs.Edges.{edgesOf}
-use Rattle.mesh_edges.specs.Words.{wordsOf}
+use Rattle.mesh_edges.specs.InnerWords.{sideWords}
 use Rattle.mesh_keep.specs.Keep.{seenIn}
 use Rattle.mesh_strokes.specs.Draw.{kept, strokesBy}
 
@@ -27,7 +27,7 @@ pub record Room (s : List ℕ) (n : ℕ) : Type 0 where
 -- the words of the sides of a mesh, for some list of flips
 pub record Listed (is s : List ℕ) : Type 0 where
   pub flips : List ℕ
-  pub words : take (5 * length is) s ≡ wordsOf is flips
+  pub words : take (5 * length is) s ≡ sideWords is flips
 
 -- whether the edge at place p is flipped
 abbrev pub flipAt : List ℕ → ℕ → ℕ → Bool
@@ -53,7 +53,7 @@ edgeKept keep s n k m = cond keep (written (m + 1) (withPair s n k m)) (written 
 pub record KeptIn (mode : Mode) (seen : List Float) (tolerance : Float) (is s s′ : List ℕ) (r : ℕ) : Type 0 where
   pub size : length s′ ≡ length s
   pub few : r ≤ length is
-  pub pairs : (flips : List ℕ) → take (5 * length is) s ≡ wordsOf is flips
+  pub pairs : (flips : List ℕ) → take (5 * length is) s ≡ sideWords is flips
       → pairsOf (region s′ (5 * length is) (2 * r)) ≡ strokesBy (kept mode (seenIn seen) flips tolerance) is (edgesOf is)
 
 -- what is stored of the faces where a mode needs their normals

@@ -23,7 +23,7 @@ ghost use Rattle.refusal.specs.Said.{accepted};
 ghost use Rattle.order.specs.Regions.{region};
 ghost use Rattle.path_splice.specs.InnerText.{LaidOut};
 ghost use Rattle.mesh.specs.Meshes.{allBelow};
-ghost use Rattle.mesh_edges.specs.Words.{edgesIn};
+ghost use Rattle.mesh_edges.specs.InnerWords.{edgesIn};
 ghost use Rattle.mesh_keep.specs.Keep.{keptBy, facesOf, seenIn};
 ghost use Rattle.mesh_strokes.specs.Draw.{drawingOf};
 ghost use Rattle.mesh_strokes.specs.InnerWalk.{Room, Listed, flipAt, withPair, written, edgeKept, KeptIn, lookIn, flipsFor, Fitting};

@@ -262,7 +262,3 @@ module _ (p : Vector) (c : Cube) (v : Vector) (i : ℕ) where
   pub score-near : near p v ≡ true → rankOf c v * 1048576 + i ≡ scoreOf p c v i
   unfolding scoreOf
   score-near n = rw n
-
-  pub score-far : near p v ≡ false → top ≡ scoreOf p c v i
-  unfolding scoreOf
-  score-far n = rw n

@@ -16,7 +16,7 @@ use Rattle.vector.specs.declared.Vector.{Vector}
 use Rattle.path.specs.Strokes.{pointAt}
 use Rattle.mesh_weld.specs.Weld.{near}
 use Rattle.mesh_weld.proofs.Coarse.{Among, here, after}
-use Rattle.mesh_weld.specs.InnerTable.{coarseAt, bucketOf, turnedOf, linkOf, On, Ends, Older, Table, wayAt, wayOf, onwardOf, lesserOf, worthOf, allWorth, closeOf, allClose, listed, nexts, NoMore, Least, top, rankOf, scoreOf, scoreAt}
+use Rattle.mesh_weld.specs.InnerTable.{coarseAt, bucketOf, turnedOf, linkOf, On, Ends, Older, Table, wayAt, wayOf, onwardOf, lesserOf, worthOf, allWorth, closeOf, allClose, allWays, nexts, NoMore, Least, top, rankOf, scoreOf, scoreAt}
 
 -- a link is a slot further on than the vertex's own, and one of the table's
 module _ (s : List ℕ) (m k at next : ℕ) (o : Older s m k) (e : next ≡ getD s at 0) (some : next ≡ 0 → ⊥) where
@@ -72,10 +72,6 @@ module _ (s : List ℕ) (m : ℕ) (w : Way) where
   on-met some at q e g = rw (ne-eqb (w .next) 0 some, e, g)
 
 module _ (f : ℕ → ℕ) (best : ℕ) (w : Way) where
-  pub worth-ended : w .next ≡ 0 → best ≡ worthOf f best w
-  unfolding worthOf
-  worth-ended e = rw (eq-eqb (w .next) 0 e)
-
   pub worth-met : (w .next ≡ 0 → ⊥) → lesserOf (f (w .next - 1)) best ≡ worthOf f best w
   unfolding worthOf
   worth-met some = rw (ne-eqb (w .next) 0 some)
@@ -114,7 +110,7 @@ module _ (n a b c d e f g h : ℕ) (s : n ≡ a + 2 * (b + 2 * (c + 2 * (d + 2 *
   bits : (n % 2 ≡ a) × (n / 2 % 2 ≡ b) × (n / 4 % 2 ≡ c) × (n / 8 % 2 ≡ d) × (n / 16 % 2 ≡ e) × (n / 32 % 2 ≡ f) × (n / 64 % 2 ≡ g) × (n / 128 % 2 ≡ h)
   bits = (omega arith, omega arith, omega arith, omega arith, omega arith, omega arith, omega arith, omega arith)
 
-pub way-bits : (vs : List Float) (p : Vector) (w : Ways) (n : ℕ) → n ≡ allClose vs p (listed w)
+pub way-bits : (vs : List Float) (p : Vector) (w : Ways) (n : ℕ) → n ≡ allClose vs p (allWays w)
     → (n % 2 ≡ closeOf vs p (w .a)) × (n / 2 % 2 ≡ closeOf vs p (w .b)) × (n / 4 % 2 ≡ closeOf vs p (w .c)) × (n / 8 % 2 ≡ closeOf vs p (w .d))
     × (n / 16 % 2 ≡ closeOf vs p (w .e)) × (n / 32 % 2 ≡ closeOf vs p (w .f)) × (n / 64 % 2 ≡ closeOf vs p (w .g)) × (n / 128 % 2 ≡ closeOf vs p (w .h))
 way-bits vs p w n s =

@@ -2,9 +2,9 @@
 use Rattle.path.specs.Strokes.{pointAt}
 use Rattle.path.specs.InnerPushes.{putPoint}
 use mathlib.Core.Path.{_≡_}
-use mathlib.Core.Bool.{Bool, true, false, cond, _&&_, _||_}
+use mathlib.Core.Bool.{Bool, cond, _&&_, _||_}
 use mathlib.Core.List.{List, [], _∷_}
-use Prim.Native.Nat.{ℕ, zero, suc, _+_, _-_, _*_, _/_, _%_, _^_, _<_, _≤_}
+use Prim.Native.Nat.{ℕ, suc, _+_, _-_, _*_, _/_, _%_, _^_, _<_, _≤_}
 use lib.ListN.{length, getD, set}
 use lib.Dec.{eqb, leb, ltb}
 use lib.IntN.{ℤ, pos, negsuc}
@@ -116,13 +116,16 @@ equalOf p v = eq (p .x) (v .x) && (eq (p .y) (v .y) && eq (p .z) (v .z))
 unfoldable pub apartOf : Float → Bool
 apartOf d = le side d || le d (neg side)
 
--- what is worth nothing: 27 * 2 ^ 20
+-- how many vertex numbers there are to a place, more than there are vertices; what is worth nothing, the 27 places being filled
+abbrev pub toPlace : ℕ
+toPlace = 1048576
+
 abbrev pub top : ℕ
-top = 28311552
+top = 27 * toPlace
 
 -- what vertex i, the point v, is worth to p: the place and then the number, as one number, below top where the vertex is found
 unfoldable pub scoreOf : Vector → Cube → Vector → ℕ → ℕ
-scoreOf p c v i = cond (near p v) (rankOf c v * 1048576 + i) top
+scoreOf p c v i = cond (near p v) (rankOf c v * toPlace + i) top
 
 unfoldable pub scoreAt : List Float → Vector → Cube → ℕ → ℕ
 scoreAt vs p c i = scoreOf p c (pointAt vs i) i
@@ -164,8 +167,8 @@ nexts (w ∷ ws) = w .next + nexts ws
 abbrev pub NoMore : ℕ → Way → Type 0
 NoMore n w = w .next ≤ n
 
-abbrev pub listed : Ways → List Way
-listed w = w .a ∷ w .b ∷ w .c ∷ w .d ∷ w .e ∷ w .f ∷ w .g ∷ w .h ∷ []
+abbrev pub allWays : Ways → List Way
+allWays w = w .a ∷ w .b ∷ w .c ∷ w .d ∷ w .e ∷ w .f ∷ w .g ∷ w .h ∷ []
 
 -- the coarse cells two by two by two from one on
 abbrev pub eightFrom : ℕ → ℕ → ℕ → List Cube

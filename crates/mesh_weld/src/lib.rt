@@ -18,7 +18,8 @@ ghost use Rattle.refusal.specs.Each.{Each};
 ghost use Rattle.path.specs.Strokes.{pointAt};
 ghost use lib.IntN.{natAbs};
 ghost use Rattle.mesh_weld.specs.Weld.{near as nearOf, find as findOf};
-ghost use Rattle.mesh_weld.specs.InnerTable.{count, key, cubeOf, Counted, foldedOf, bucketOf, coarseOf, turnedOf, linkOf, Older, Ends, Hung, placeOf, rankOf, equalOf, apartOf, top, scoreOf, scoreAt, cube, eightFrom, listed, wayOf, onwardOf, lesserOf, worthOf, allWorth, closeOf, allClose, nexts, NoMore, Least, About, Ready, Placed};
+ghost use Rattle.refusal.specs.Limits.{mostFaces};
+ghost use Rattle.mesh_weld.specs.InnerTable.{count, key, cubeOf, Counted, foldedOf, bucketOf, coarseOf, turnedOf, linkOf, Older, Ends, Hung, placeOf, rankOf, equalOf, apartOf, top, scoreOf, scoreAt, cube, eightFrom, allWays, wayOf, onwardOf, lesserOf, worthOf, allWorth, closeOf, allClose, nexts, NoMore, Least, About, Ready, Placed};
 ghost use Rattle.mesh_weld.specs.Call.{said, verdictOf, left, weldLeft};
 ghost use Rattle.mesh_weld.specs.InnerTable.{Laid};
 
@@ -69,7 +70,7 @@ struct Ways {
 const PLACE: u64 = 1048576;
 
 // What is worth nothing: all 27 places come before it.
-const TOP: u64 = 28311552;
+const TOP: u64 = 27 * PLACE;
 
 // A cell, counted up from a number below all of them.
 fn counted(z: i64) -> u64
@@ -244,7 +245,7 @@ fn begin(scratch: &[u32], m: usize, x: u64, y: u64, z: u64) -> Way
 fn all_begin(scratch: &[u32], m: usize, x: u64, y: u64, z: u64) -> Ways
     requires { ⌜ (m ≤ length (now scratch)) × (0 < m) × (m < 2 ^ 20) ⌝ }
     requires { ⌜ (x < 2 ^ 55) × (y < 2 ^ 55) × (z < 2 ^ 55) ⌝ }
-    ensures { λ r. ⌜ listed r ≡ map (wayOf (now (scratch .entry)) m) (eightFrom x y z) ⌝ }
+    ensures { λ r. ⌜ allWays r ≡ map (wayOf (now (scratch .entry)) m) (eightFrom x y z) ⌝ }
 {
     let right = x + 1;
     let up = y + 1;
@@ -280,8 +281,8 @@ fn onward(scratch: &[u32], g: VertexMerger, w: Way) -> Way
 
 fn all_onward(scratch: &[u32], g: VertexMerger, w: Ways) -> Ways
     requires { ⌜ (g .buckets + g .count * 2 ≤ length (now scratch)) × (g .buckets < 2 ^ 20) × (g .count ≤ 2 ^ 20) ⌝ }
-    requires { ⌜ Each (NoMore (g .count)) (listed w) ⌝ }
-    ensures { λ r. ⌜ listed r ≡ map (onwardOf (now (scratch .entry)) (g .buckets)) (listed w) ⌝ }
+    requires { ⌜ Each (NoMore (g .count)) (allWays w) ⌝ }
+    ensures { λ r. ⌜ allWays r ≡ map (onwardOf (now (scratch .entry)) (g .buckets)) (allWays w) ⌝ }
 {
     Ways {
         a: onward(scratch, g, w.a),
@@ -325,8 +326,8 @@ fn close(vertices: &[f64], g: VertexMerger, p: Vector, w: Way) -> usize
 // Which of the vertices ahead are near p: a bit for each way, the first the lowest.
 fn all_close(vertices: &[f64], g: VertexMerger, p: Vector, w: Ways) -> usize
     requires { ⌜ (g .count * 3 ≤ length (now vertices)) × (g .count ≤ 2 ^ 20) ⌝ }
-    requires { ⌜ Each (NoMore (g .count)) (listed w) ⌝ }
-    ensures { λ r. ⌜ r ≡ allClose (now (vertices .entry)) p (listed w) ⌝ }
+    requires { ⌜ Each (NoMore (g .count)) (allWays w) ⌝ }
+    ensures { λ r. ⌜ r ≡ allClose (now (vertices .entry)) p (allWays w) ⌝ }
 {
     let left = close(vertices, g, p, w.a)
         + 2 * close(vertices, g, p, w.b)
@@ -354,9 +355,9 @@ fn worth(vertices: &[f64], p: Vector, c: Cube, w: Way, is_close: usize, best: u6
 
 // The same of all eight, by a bit for each that says whether it is close.
 fn all_worth(vertices: &[f64], p: Vector, c: Cube, w: Ways, bits: usize, best: u64) -> u64
-    requires { ⌜ Counted c × (c ≡ cubeOf p) × Each (NoMore (2 ^ 20)) (listed w) ⌝ }
-    requires { ⌜ (bits ≡ allClose (now vertices) p (listed w)) × (best ≤ top) ⌝ }
-    ensures { λ r. ⌜ r ≡ allWorth (scoreAt (now (vertices .entry)) p c) best (listed w) ⌝ }
+    requires { ⌜ Counted c × (c ≡ cubeOf p) × Each (NoMore (2 ^ 20)) (allWays w) ⌝ }
+    requires { ⌜ (bits ≡ allClose (now vertices) p (allWays w)) × (best ≤ top) ⌝ }
+    ensures { λ r. ⌜ r ≡ allWorth (scoreAt (now (vertices .entry)) p c) best (allWays w) ⌝ }
 {
     let one = worth(vertices, p, c, w.a, bits % 2, best);
     let two = worth(vertices, p, c, w.b, bits / 2 % 2, one);
@@ -371,9 +372,9 @@ fn all_worth(vertices: &[f64], p: Vector, c: Cube, w: Ways, bits: usize, best: u
 // What all_worth gives. Mostly no vertex ahead is near, and then nothing is worth anything.
 fn best_of(vertices: &[f64], g: VertexMerger, p: Vector, c: Cube, w: Ways, best: u64) -> u64
     requires { ⌜ (g .count * 3 ≤ length (now vertices)) × (g .count ≤ 2 ^ 20) ⌝ }
-    requires { ⌜ Each (NoMore (g .count)) (listed w) ⌝ }
+    requires { ⌜ Each (NoMore (g .count)) (allWays w) ⌝ }
     requires { ⌜ Counted c × (c ≡ cubeOf p) × (best ≤ top) ⌝ }
-    ensures { λ r. ⌜ r ≡ allWorth (scoreAt (now (vertices .entry)) p c) best (listed w) ⌝ }
+    ensures { λ r. ⌜ r ≡ allWorth (scoreAt (now (vertices .entry)) p c) best (allWays w) ⌝ }
 {
     let bits = all_close(vertices, g, p, w);
     if bits == 0 {
@@ -384,8 +385,8 @@ fn best_of(vertices: &[f64], g: VertexMerger, p: Vector, c: Cube, w: Ways, best:
 
 // Zero once all have ended.
 fn ahead(w: Ways) -> usize
-    requires { ⌜ Each (NoMore (2 ^ 20)) (listed w) ⌝ }
-    ensures { λ r. ⌜ r ≡ nexts (listed w) ⌝ }
+    requires { ⌜ Each (NoMore (2 ^ 20)) (allWays w) ⌝ }
+    ensures { λ r. ⌜ r ≡ nexts (allWays w) ⌝ }
 {
     w.a.next + w.b.next + w.c.next + w.d.next + w.e.next + w.f.next + w.g.next + w.h.next
 }
@@ -485,7 +486,7 @@ fn get_or_insert(
 // Welds every corner, with a table of two buckets a corner and two links a vertex, and answers how many vertices there are.
 fn weld_all(coords: &[f64], scratch: &mut [u32], vertices: &mut [f64], indices: &mut [u32]) -> usize
     requires { ⌜ now scratch ≡ replicate (length (now scratch)) 0 ⌝ }
-    requires { ⌜ (length (now coords) / 3 ≤ 196608) × (length (now coords) / 3 * 4 ≤ length (now scratch)) × (length (now coords) / 3 * 3 ≤ length (now vertices)) × (length (now coords) / 3 ≤ length (now indices)) ⌝ }
+    requires { ⌜ (length (now coords) / 3 ≤ 3 * mostFaces) × (length (now coords) / 3 * 4 ≤ length (now scratch)) × (length (now coords) / 3 * 3 ≤ length (now vertices)) × (length (now coords) / 3 ≤ length (now indices)) ⌝ }
     ensures { λ r. ⌜ Laid (now (coords .entry)) (now (vertices .entry)) (now (indices .entry)) (now (vertices .exit)) (now (indices .exit)) r ⌝ }
 {
     let n = coords.len() / 3;

@@ -1,4 +1,4 @@
 pub mod Regions
 pub mod Order
-pub mod Digits
+pub mod InnerDigits
 pub mod Sort

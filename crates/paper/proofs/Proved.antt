@@ -1,9 +1,7 @@
 -- All of them hold, each by computation in its own crate.
-use mathlib.Core.Path.{refl}
 use mathlib.Core.List.{List, [], _∷_, _++_, map}
 use Rattle.refusal.specs.Each.{Each}
-use Rattle.path_splice_rule.specs.Splice.{splice, links, linkFrom, linkEnd, tie, pick, onward, after, run, from, pass, atFree, atLast, chainsOf, lastOf, firstOf, present, endOf, turned, valueAt, joinable, readFrom, added, readChain}
-use Rattle.paper.specs.Paper.{Case, arithmetic, cut, halved, simplified, welded, drawn, written, listed, Holds, splices, paper}
+use Rattle.paper.specs.Paper.{Case, arithmetic, cut, halved, simplified, spliced, welded, drawing, written, listed, Holds, paper}
 use Rattle.vector.specs.Cases as N
 use Rattle.vector.proofs.Cases as vectors
 use Rattle.path_chop.specs.Cases as C
@@ -12,6 +10,8 @@ use Rattle.path_adaptive.specs.Cases as A
 use Rattle.path_adaptive.proofs.Cases as halves
 use Rattle.path_simplify.specs.Cases as S
 use Rattle.path_simplify.proofs.Cases as simples
+use Rattle.path_splice.specs.Cases as P
+use Rattle.path_splice.proofs.Cases as splices
 use Rattle.mesh_weld.specs.Cases as W
 use Rattle.mesh_weld.proofs.Cases as welds
 use Rattle.mesh_strokes.specs.Cases as D
@@ -38,16 +38,12 @@ also (c ∷ a) b p q = (p .0, also a b (p .1) q)
 abbrev and : Held → Held → Held
 and a b = record { list = a .list ++ b .list; hold = also (a .list) (b .list) (a .hold) (b .hold) }
 
-spliced-all : Each Holds splices
-unfolding splices splice links linkFrom linkEnd tie pick onward after run from pass atFree atLast chainsOf lastOf firstOf present endOf turned valueAt joinable readFrom added readChain
-spliced-all = (refl, (refl, tt))
-
 abbrev all : Held
 all =
     and (record { list = map arithmetic N.paper; hold = among arithmetic (λ c p. p) N.paper vectors.cases })
     (and (record { list = map welded W.paper; hold = among welded (λ c p. p) W.paper welds.cases })
-    (and (record { list = splices; hold = spliced-all })
-    (and (record { list = map drawn D.paper; hold = among drawn (λ c p. p) D.paper draws.cases })
+    (and (record { list = map spliced P.paper; hold = among spliced (λ c p. p) P.paper splices.cases })
+    (and (record { list = map drawing D.paper; hold = among drawing (λ c p. p) D.paper draws.cases })
     (and (record { list = map cut C.paper; hold = among cut (λ c p. p) C.paper cuts.cases })
     (and (record { list = map halved A.paper; hold = among halved (λ c p. p) A.paper halves.cases })
     (and (record { list = map simplified S.paper; hold = among simplified (λ c p. p) S.paper simples.cases })

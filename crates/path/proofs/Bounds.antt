@@ -13,7 +13,8 @@ use lib.Ieee.{Float, nan, inf, fin, up, down, lt, eq, le, neg}
 use lib.Ieee.Bits.{is-true, is-false}
 use lib.Ieee.Fits.{down-pos}
 use Rattle.vector.specs.Abs.{absOf}
-use Rattle.path.specs.Tests.{Bound, withinOf}
+use Rattle.path.specs.Tests.{withinOf}
+use Rattle.path.specs.InnerBounds.{Bound}
 
 unlevel : (a b : ℕ) → b < a → eqb a b ≡ false
 unlevel a b h = go (eqb a b) (eqb→eq a b)

@@ -10,7 +10,8 @@ use lib.Ieee.{Float, nan}
 use Rattle.vector.specs.declared.Vector.{Vector}
 use Rattle.path.specs.Strokes.{pointAt}
 use Rattle.path.specs.Laid.{flat}
-use Rattle.path.specs.InnerPushes.{putPoint, putPoints, course, advanced}
+use Rattle.path.specs.InnerPushes.{putPoint, putPoints}
+use Rattle.path.specs.Courses.{course, advanced}
 use Rattle.path.proofs.Pushes.{Lays, over-sets}
 
 -- past the end there is nothing to read, and nothing is stored

@@ -9,7 +9,8 @@ use lib.ListN.{length, set, length-append}
 use lib.Seq.{sets, sets-eq}
 use Rattle.path.specs.declared.Place.{Place}
 use Rattle.path.specs.Laid.{over, nonEmpty, joined, startsFrom}
-use Rattle.path.specs.InnerPushes.{Course, course, Out, out, advanced, push, pushAll}
+use Rattle.path.specs.InnerPushes.{Out, out, push, pushAll}
+use Rattle.path.specs.Courses.{Course, course, advanced}
 
 -- the two places where nothing is written yet
 abbrev pub front : Place

@@ -14,14 +14,6 @@ unfoldable pub putPoints : List Float → ℕ → List Vector → List Float
 putPoints l i [] = l
 putPoints l i (v ∷ vs) = putPoints (putPoint l i v) (i + 1) vs
 
--- a lent list in the course of a call, and the place of the element that comes next
-pub record Course (B : Type 0) : Type 0 where
-  pub buf : List B
-  pub at : ℕ
-
-abbrev pub course : {B : Type 0} → List B → ℕ → Course B
-course b i = record { buf = b; at = i }
-
 -- the two lent lists in the course of a call, and the places of what comes next
 pub record Out (B : Type 0) : Type 0 where
   pub buf : List B
@@ -33,10 +25,6 @@ out b ss p = record { buf = b; starts = ss; place = p }
 
 -- how the elements of a stroke are stored from a place on is said by `put`: `putPoints` for points, `sets` for numbers
 module _ {A B : Type 0} (put : List B → ℕ → List A → List B) where
-  -- elements written from there on
-  unfoldable pub advanced : Course B → List A → Course B
-  advanced p xs = course (put (p .buf) (p .at) xs) (p .at + length xs)
-
   -- one stroke more: its start where the next start goes, its elements where the next element goes
   unfoldable pub push : Out B → List A → Out B
   push o [] = o

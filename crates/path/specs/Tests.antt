@@ -1,12 +1,10 @@
 -- The tests that calls on points share.
-use mathlib.Core.Path.{_≡_}
-use mathlib.Core.Bool.{Bool, true, false, _&&_}
+use mathlib.Core.Bool.{Bool, true, _&&_}
 use mathlib.Core.List.{List, [], _∷_}
 use Prim.Native.Nat.{ℕ, _/_, _%_}
 use lib.ListN.{length}
 use lib.Dec.{leb, eqb}
-use lib.IntN.{pos}
-use lib.Ieee.{Float, fin, binary64, ofBits, le, lt}
+use lib.Ieee.{Float, binary64, ofBits, le, lt}
 use Rattle.refusal.specs.Limits.{mostPoints, mostStrokes}
 use Rattle.vector.specs.Abs.{absOf}
 use Rattle.vector.specs.Lengths.{zero64, one64}
@@ -31,11 +29,6 @@ mostEntry = ofBits binary64 0x4130_0000_0000_0000
 -- the greatest step, width and height, as much
 abbrev pub mostSize : Float
 mostSize = ofBits binary64 0x4130_0000_0000_0000
-
--- a bound is a power of two
-pub record Bound (most : Float) : Type 0 where
-  pub power : ℕ
-  pub is : most ≡ fin false 1 (pos power)
 
 -- magnitude within a bound, no NaN
 abbrev pub withinOf : Float → Float → Bool

@@ -9,7 +9,8 @@ ghost use lib.ListN.{getD, set};
 ghost use lib.Ieee.{nan};
 ghost use Rattle.path.specs.Strokes.{goodStarts, pointAt};
 ghost use Rattle.path.specs.InnerPushes.{putPoint};
-ghost use Rattle.path.specs.Tests.{shapedOf, countedOf, Bound, withinOf, allWithin, coordinateGood, coordinatesGood, entriesGood, stepGood, sizeGood, toleranceGood};
+ghost use Rattle.path.specs.Tests.{shapedOf, countedOf, withinOf, allWithin, coordinateGood, coordinatesGood, entriesGood, stepGood, sizeGood, toleranceGood};
+ghost use Rattle.path.specs.InnerBounds.{Bound};
 
 // Where the next point and the next start go.
 pub struct Place {

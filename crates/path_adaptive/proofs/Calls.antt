@@ -16,9 +16,11 @@ use Rattle.path.proofs.Tests.{passed, few-strokes}
 use Rattle.path_adaptive.specs.declared.View.{View}
 use Rattle.path_adaptive.specs.declared.Tally.{Tally}
 use Rattle.path_adaptive.specs.declared.Tally.the-variants.{Left, Met}
-use Rattle.path_adaptive.specs.Walk.{viewOf, walksOf, adapted, halvingsOf, Calm}
-use Rattle.path_adaptive.specs.Tally.{spentAll, verdictBy, stoppedOf}
-use Rattle.path_adaptive.specs.Call.{pointRoom, adaptiveVerdict}
+use Rattle.path_adaptive.specs.Walk.{viewOf, walksOf, adapted, halvingsOf}
+use Rattle.path_adaptive.specs.InnerWrite.{Calm}
+use Rattle.path_adaptive.specs.Tally.{spentAll, verdictBy}
+use Rattle.path_adaptive.specs.InnerMeasure.{stoppedOf}
+use Rattle.path_adaptive.specs.Call.{pointRoom, verdictOf}
 use Rattle.path_adaptive.proofs.Tallies.{all-fine, points-and-halvings}
 
 accepted-runs : (t : Tally) → verdictBy t ≡ Accepted → stoppedOf t ≡ false
@@ -52,8 +54,8 @@ good view ps ss room startRoom few h =
     }
 
 pub adaptive-accepted : (ps : List Float) (ss : List ℕ) (m : Matrix) (width height step tolerance : Float) (room startRoom : ℕ)
-    → adaptiveVerdict ps ss m width height step tolerance room startRoom ≡ Accepted → Good (viewOf m width height step tolerance) ps ss room startRoom
-unfolding adaptiveVerdict
+    → verdictOf ps ss m width height step tolerance room startRoom ≡ Accepted → Good (viewOf m width height step tolerance) ps ss room startRoom
+unfolding verdictOf
 adaptive-accepted ps ss m width height step tolerance room startRoom h =
     let shape = passed _ _ _ h in
     let count = passed _ _ _ (shape .1) in
@@ -62,6 +64,6 @@ adaptive-accepted ps ss m width height step tolerance room startRoom h =
     good (viewOf m width height step tolerance) ps ss room startRoom (few-strokes (length ps / 3) (length ss) (count .0)) (accepted-runs (spentAll (Left (pointRoom room) startRoom) (walksOf (viewOf m width height step tolerance) ps ss)) (numbers .1))
 
 pub accepted-at : (ps : List Float) (ss : List ℕ) (m : Matrix) (width height step tolerance : Float) (room startRoom : ℕ) {v : View} → v ≡ viewOf m width height step tolerance
-    → adaptiveVerdict ps ss m width height step tolerance room startRoom ≡ Accepted → Good v ps ss room startRoom
+    → verdictOf ps ss m width height step tolerance room startRoom ≡ Accepted → Good v ps ss room startRoom
 accepted-at ps ss m width height step tolerance room startRoom e h =
     subst⁻¹ (λ (v : View). Good v ps ss room startRoom) e (adaptive-accepted ps ss m width height step tolerance room startRoom h)

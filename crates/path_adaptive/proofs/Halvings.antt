@@ -22,7 +22,7 @@ use Rattle.path.proofs.Again.{table-all}
 use Rattle.path.proofs.Tests.{passed, both}
 use Rattle.path_adaptive.specs.declared.Adapted.the-variants as A
 use Rattle.path_adaptive.specs.Walk.{viewOf, walksOf, adapted, halvingsOf}
-use Rattle.path_adaptive.specs.Call.{said, adaptiveVerdict, adaptiveLeft}
+use Rattle.path_adaptive.specs.Call.{said, verdictOf, adaptiveLeft}
 use Rattle.path_adaptive.proofs.Tallies.{points-and-halvings}
 use Rattle.path_adaptive.proofs.Calls.{adaptive-accepted}
 
@@ -37,12 +37,12 @@ unfolding shapedOf
 shaped-table ps ss h = both (eqb (length ps % 3) 0) (goodStarts (length ps / 3) ss) h .1
 
 accepted-table : (ps : List Float) (ss : List ℕ) (m : Matrix) (width height step tolerance : Float) (room startRoom : ℕ)
-    → adaptiveVerdict ps ss m width height step tolerance room startRoom ≡ Accepted → goodStarts (length ps / 3) ss ≡ true
-unfolding adaptiveVerdict
+    → verdictOf ps ss m width height step tolerance room startRoom ≡ Accepted → goodStarts (length ps / 3) ss ≡ true
+unfolding verdictOf
 accepted-table ps ss m width height step tolerance room startRoom h = shaped-table ps ss (passed _ _ _ h .0)
 
 counted-all : (ps : List Float) (ss : List ℕ) (m : Matrix) (width height step tolerance : Float) (room startRoom : ℕ)
-    → adaptiveVerdict ps ss m width height step tolerance room startRoom ≡ Accepted
+    → verdictOf ps ss m width height step tolerance room startRoom ≡ Accepted
     → length (joined (adapted (walksOf (viewOf m width height step tolerance) ps ss))) ≡ length ps / 3 + halvingsOf (walksOf (viewOf m width height step tolerance) ps ss)
 unfolding walksOf
 counted-all ps ss m width height step tolerance room startRoom h =

@@ -6,11 +6,12 @@ use native.Mathlib.Omega.{arith}
 use lib.ListN.{length}
 use lib.Ieee.{Float}
 use Rattle.vector.specs.declared.Vector.{Vector}
-use Rattle.path.specs.InnerPushes.{putPoint, putPoints, course, advanced}
+use Rattle.path.specs.InnerPushes.{putPoint, putPoints}
+use Rattle.path.specs.Courses.{course, advanced}
 use Rattle.path.proofs.Pushes.{ink-none, ink-append, ink-place}
 use Rattle.path.proofs.Points.{points-lie, ink-more}
 use Rattle.path_adaptive.specs.declared.write.Mark.{Mark}
-use Rattle.path_adaptive.specs.Walk.{Walk, none, one}
+use Rattle.path_adaptive.specs.Walk.{Walk, none, onePoint}
 use Rattle.path_adaptive.specs.InnerWrite.{Fits, Inks}
 use Rattle.path_adaptive.proofs.Walks.{Both}
 
@@ -18,7 +19,7 @@ use Rattle.path_adaptive.proofs.Walks.{Both}
 pub inks-are : {w u : Walk} {a b : List Float} {m k : Mark} → w ≡ u → Inks u a m b k → Inks w a m b k
 inks-are {w} {u} {a} {b} {m} {k} e f = subst⁻¹ (λ (x : Walk). Inks x a m b k) e f
 
-pub one-inks : (v : Vector) (a b : List Float) (m : Mark) → b ≡ putPoint a (m .points) v → Inks (one v) a m b (record { points = m .points + 1; halvings = m .halvings })
+pub one-inks : (v : Vector) (a b : List Float) (m : Mark) → b ≡ putPoint a (m .points) v → Inks (onePoint v) a m b (record { points = m .points + 1; halvings = m .halvings })
 one-inks v a b m g =
     record {
       ink = rw g (sym (ink-none points-lie (course (putPoint a (m .points) v) (m .points + 1))) ∙ ink-more a (m .points) v []);

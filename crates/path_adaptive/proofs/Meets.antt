@@ -10,9 +10,9 @@ use Rattle.refusal.specs.declared.Refusal.the-variants.{Room, Deep}
 use Rattle.vector.specs.declared.Vector.{Vector}
 use Rattle.path_adaptive.specs.declared.Tally.{Tally}
 use Rattle.path_adaptive.specs.declared.Tally.the-variants.{Left, Met}
-use Rattle.path_adaptive.specs.Walk.{Walk, one, stuck, join, halved}
-use Rattle.path_adaptive.specs.Tally.{spent, pointed, stoppedOf}
-use Rattle.path_adaptive.specs.InnerMeasure.{noRoom, tooDeep, tallyOf, Takes, Meets}
+use Rattle.path_adaptive.specs.Walk.{Walk, onePoint, stuck, followedBy, halved}
+use Rattle.path_adaptive.specs.Tally.{spent}
+use Rattle.path_adaptive.specs.InnerMeasure.{pointed, stoppedOf, noRoom, tooDeep, tallyOf, Takes, Meets}
 use Rattle.path_adaptive.proofs.Tallies.{spent-stop, spent-stuck, spent-one, spent-halved, spent-join}
 
 -- ---- a tally by its word
@@ -43,16 +43,16 @@ takes-none n z s = rw z
 pub meets-stop : (n : ℕ) (w : Walk) → mostPoints < n → Meets n w n
 meets-stop n w h s = spent-stop (tallyOf n s) w (stops n s h)
 
-pub meets-one : (n r : ℕ) (v : Vector) (w : Walk) → Takes n r → w ≡ one v → Meets n w r
+pub meets-one : (n r : ℕ) (v : Vector) (w : Walk) → Takes n r → w ≡ onePoint v → Meets n w r
 meets-one n r v w h e s = h s ∙ spent-one (tallyOf n s) v w e
 
 pub meets-stuck : (n : ℕ) (w : Walk) → n ≤ mostPoints → w ≡ stuck → Meets n w tooDeep
 unfolding tallyOf
 meets-stuck n w h e s = spent-stuck (tallyOf n s) w e (ap stoppedOf (points-left n s h))
 
-pub meets-join : (n k j : ℕ) (l r w : Walk) → w ≡ join l r → Meets n l k → Meets k r j → Meets n w j
+pub meets-join : (n k j : ℕ) (l r w : Walk) → w ≡ followedBy l r → Meets n l k → Meets k r j → Meets n w j
 meets-join n k j l r w e f g s = g s ∙ ap (λ (t : Tally). spent t r) (f s) ∙ spent-join (tallyOf n s) l r w e
 
-pub meets-halves : (n k j : ℕ) (l r w : Walk) → w ≡ halved (join l r) → Meets n l k → Meets k r j → Meets n w j
+pub meets-halves : (n k j : ℕ) (l r w : Walk) → w ≡ halved (followedBy l r) → Meets n l k → Meets k r j → Meets n w j
 meets-halves n k j l r w e f g s =
-    meets-join n k j l r (join l r) refl f g s ∙ sym (spent-halved (tallyOf n s) (join l r)) ∙ ap (spent (tallyOf n s)) (sym e)
+    meets-join n k j l r (followedBy l r) refl f g s ∙ sym (spent-halved (tallyOf n s) (followedBy l r)) ∙ ap (spent (tallyOf n s)) (sym e)

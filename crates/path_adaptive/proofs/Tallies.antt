@@ -18,9 +18,10 @@ use Rattle.path.proofs.Pushes.{some-kept}
 use Rattle.path_adaptive.specs.declared.View.{View}
 use Rattle.path_adaptive.specs.declared.Tally.{Tally}
 use Rattle.path_adaptive.specs.declared.Tally.the-variants.{Left, Met}
-use Rattle.path_adaptive.specs.Walk.{Walk, none, one, stuck, join, halved, strokeWalked, adapted, halvingsOf, walkFrom, walksOf, shownOf, Calm}
-use Rattle.path_adaptive.specs.Tally.{spent, pointed, begun, spentStroke, spentAll, stoppedOf}
-use Rattle.path_adaptive.specs.InnerMeasure.{pointsOf}
+use Rattle.path_adaptive.specs.Walk.{Walk, none, onePoint, stuck, followedBy, halved, strokeWalked, adapted, halvingsOf, walkFrom, walksOf, shownOf}
+use Rattle.path_adaptive.specs.InnerWrite.{Calm}
+use Rattle.path_adaptive.specs.Tally.{spent, begun, spentStroke, spentAll}
+use Rattle.path_adaptive.specs.InnerMeasure.{pointed, stoppedOf, pointsOf}
 use Rattle.path_adaptive.proofs.Walks.{stroke-count}
 
 -- ---- one walk
@@ -40,7 +41,7 @@ unfolding spent
 spent-none (Left p s) = let z : p - 0 ≡ p = omega arith in rw (le-leb 0 p (omega arith), z)
 spent-none (Met r) = refl
 
-pub spent-one : (t : Tally) (v : Vector) (w : Walk) → w ≡ one v → pointed t ≡ spent t w
+pub spent-one : (t : Tally) (v : Vector) (w : Walk) → w ≡ onePoint v → pointed t ≡ spent t w
 unfolding spent pointed
 spent-one (Left p s) v w e = rw e
 spent-one (Met r) v w e = refl
@@ -61,14 +62,14 @@ module _ (p s : ℕ) (l : Walk) where
       go true true e f = deep (leb-true (length (l .points)) p e) f
       go true false e f = fine (leb-true (length (l .points)) p e) f
 
-  full-join : (r : Walk) → p < length (l .points) → Met Room ≡ spent (Left p s) (join l r)
-  unfolding spent join
+  full-join : (r : Walk) → p < length (l .points) → Met Room ≡ spent (Left p s) (followedBy l r)
+  unfolding spent followedBy
   full-join r h =
       let x = cond (l .deep) [] (r .points) in
       rw (lt-leb (length (l .points ++ x)) p (omega (arith, length-append (l .points) x)))
 
-  deep-join : (r : Walk) → length (l .points) ≤ p → l .deep ≡ true → Met Deep ≡ spent (Left p s) (join l r)
-  unfolding spent join
+  deep-join : (r : Walk) → length (l .points) ≤ p → l .deep ≡ true → Met Deep ≡ spent (Left p s) (followedBy l r)
+  unfolding spent followedBy
   deep-join r h d = rw (d, append-nil, le-leb (length (l .points)) p h)
 
   leb-shift : (n k : ℕ) → n ≤ p → leb (n + k) p ≡ leb k (p - n)
@@ -78,8 +79,8 @@ module _ (p s : ℕ) (l : Walk) where
       go true e = le-leb (n + k) p (let b = leb-true k (p - n) e in omega arith)
       go false e = lt-leb (n + k) p (let b = leb-false k (p - n) e in omega arith)
 
-  fine-join : (r : Walk) → length (l .points) ≤ p → l .deep ≡ false → spent (Left (p - length (l .points)) s) r ≡ spent (Left p s) (join l r)
-  unfolding spent join
+  fine-join : (r : Walk) → length (l .points) ≤ p → l .deep ≡ false → spent (Left (p - length (l .points)) s) r ≡ spent (Left p s) (followedBy l r)
+  unfolding spent followedBy
   fine-join r h d =
       let n = length (l .points) in
       let k = length (r .points) in
@@ -87,11 +88,11 @@ module _ (p s : ℕ) (l : Walk) where
       rw (d, length-append (l .points) (r .points), leb-shift n k h, e)
 
 -- one walk after the other
-pub spent-join : (t : Tally) (l r w : Walk) → w ≡ join l r → spent (spent t l) r ≡ spent t w
+pub spent-join : (t : Tally) (l r w : Walk) → w ≡ followedBy l r → spent (spent t l) r ≡ spent t w
 unfolding spent
 spent-join (Met q) l r w e = refl
 spent-join (Left p s) l r w e =
-    rw e (spent-cases p s l (λ t. spent t r ≡ spent (Left p s) (join l r)) (full-join p s l r) (deep-join p s l r) (fine-join p s l r))
+    rw e (spent-cases p s l (λ t. spent t r ≡ spent (Left p s) (followedBy l r)) (full-join p s l r) (deep-join p s l r) (fine-join p s l r))
 
 -- ---- a stroke
 
@@ -99,20 +100,20 @@ pub stroke-empty : (t : Tally) (w : Walk) → w ≡ none → t ≡ spentStroke t
 unfolding spentStroke
 stroke-empty t w e = rw e
 
-first-some : (v : Vector) (r w : Walk) → w ≡ join (one v) r → length (w .points) ≡ 0 → ⊥
-unfolding join
+first-some : (v : Vector) (r w : Walk) → w ≡ followedBy (onePoint v) r → length (w .points) ≡ 0 → ⊥
+unfolding followedBy
 first-some v r w e z = let k = ap (λ (x : Walk). length (x .points)) e in omega arith
 
 spent-some : (t : Tally) (w : Walk) → (length (w .points) ≡ 0 → ⊥) → spentStroke t w ≡ spent (begun t) w
 unfolding spentStroke
 spent-some t w z = rw (ne-eqb (length (w .points)) 0 z)
 
-pub stroke-first : (t : Tally) (v : Vector) (r w : Walk) → w ≡ join (one v) r → spent (spent (begun t) (one v)) r ≡ spentStroke t w
-stroke-first t v r w e = spent-join (begun t) (one v) r w e ∙ sym (spent-some t w (first-some v r w e))
+pub stroke-first : (t : Tally) (v : Vector) (r w : Walk) → w ≡ followedBy (onePoint v) r → spent (spent (begun t) (onePoint v)) r ≡ spentStroke t w
+stroke-first t v r w e = spent-join (begun t) (onePoint v) r w e ∙ sym (spent-some t w (first-some v r w e))
 
 -- the first point of a stroke, and what follows it
-pub stroke-goes : (t s : Tally) (v : Vector) (r w : Walk) → w ≡ join (one v) r → s ≡ pointed (begun t) → spent s r ≡ spentStroke t w
-stroke-goes t s v r w e f = ap (λ (x : Tally). spent x r) (f ∙ spent-one (begun t) v (one v) refl) ∙ stroke-first t v r w e
+pub stroke-goes : (t s : Tally) (v : Vector) (r w : Walk) → w ≡ followedBy (onePoint v) r → s ≡ pointed (begun t) → spent s r ≡ spentStroke t w
+stroke-goes t s v r w e f = ap (λ (x : Tally). spent x r) (f ∙ spent-one (begun t) v (onePoint v) refl) ∙ stroke-first t v r w e
 
 -- ---- the room for points never grows
 
@@ -144,8 +145,8 @@ stroke-less t w = go (eqb (length (w .points)) 0)
 
 pub first-less : (t s : Tally) (v : Vector) {p q : ℕ} → s ≡ pointed (begun t) → s ≡ Left p q → p ≤ pointsOf t
 first-less t s v f e =
-    let a = ap pointsOf (sym e ∙ f ∙ spent-one (begun t) v (one v) refl) in
-    omega (arith, spent-less (begun t) (one v), begun-less t)
+    let a = ap pointsOf (sym e ∙ f ∙ spent-one (begun t) v (onePoint v) refl) in
+    omega (arith, spent-less (begun t) (onePoint v), begun-less t)
 
 -- ---- all strokes
 

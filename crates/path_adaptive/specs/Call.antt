@@ -36,8 +36,8 @@ numbersGood m width height step tolerance = entriesGood (entriesOf m) && sizeGoo
 unfoldable pub pointRoom : ℕ → ℕ
 pointRoom room = min (room / 3) mostPoints
 
-unfoldable pub adaptiveVerdict : List Float → List ℕ → Matrix → Float → Float → Float → Float → ℕ → ℕ → Verdict
-adaptiveVerdict ps ss m width height step tolerance room startRoom =
+unfoldable pub verdictOf : List Float → List ℕ → Matrix → Float → Float → Float → Float → ℕ → ℕ → Verdict
+verdictOf ps ss m width height step tolerance room startRoom =
     unless (shapedOf ps ss) Shape
     (unless (countedOf (length ps / 3) (length ss)) Count
     (unless (coordinatesGood ps) Number
@@ -47,4 +47,4 @@ adaptiveVerdict ps ss m width height step tolerance room startRoom =
 unfoldable pub adaptiveLeft : List Float → List ℕ → Matrix → Float → Float → Float → Float → List Float → List ℕ → Outcome Lent
 adaptiveLeft ps ss m width height step tolerance op os =
     let ws = walksOf (viewOf m width height step tolerance) ps ss in
-    outcome (adaptiveVerdict ps ss m width height step tolerance (length op) (length os)) (lent op os) (laid (halvingsOf ws ∷ []) (adapted ws) op os)
+    outcome (verdictOf ps ss m width height step tolerance (length op) (length os)) (lent op os) (laid (halvingsOf ws ∷ []) (adapted ws) op os)

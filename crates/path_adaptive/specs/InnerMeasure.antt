@@ -1,14 +1,24 @@
 -- What the measuring walk hands on from span to span: one word, the points left or what stopped it.
 use mathlib.Core.Path.{_≡_}
-use mathlib.Core.Bool.{cond}
-use Prim.Native.Nat.{ℕ, _+_}
+use mathlib.Core.Bool.{Bool, true, false, cond}
+use Prim.Native.Nat.{ℕ, _+_, _-_}
 use lib.Dec.{leb, eqb}
 use Rattle.refusal.specs.Limits.{mostPoints}
 use Rattle.refusal.specs.declared.Refusal.the-variants.{Room, Deep}
 use Rattle.path_adaptive.specs.declared.Tally.{Tally}
 use Rattle.path_adaptive.specs.declared.Tally.the-variants.{Left, Met}
 use Rattle.path_adaptive.specs.Walk.{Walk}
-use Rattle.path_adaptive.specs.Tally.{spent, pointed}
+use Rattle.path_adaptive.specs.Tally.{spent}
+
+-- after one point
+unfoldable pub pointed : Tally → Tally
+pointed (Met r) = Met r
+pointed (Left points starts) = cond (leb 1 points) (Left (points - 1) starts) (Met Room)
+
+-- whether a refusal was met
+abbrev pub stoppedOf : Tally → Bool
+stoppedOf (Left points starts) = false
+stoppedOf (Met r) = true
 
 -- the words for a walk that lacks room, and for one that is too deep; points left are fewer than either
 abbrev pub noRoom : ℕ

@@ -1,12 +1,13 @@
 -- What writing a walk asks, and what it does.
 use mathlib.Core.Path.{_≡_}
 use mathlib.Core.Bool.{false}
-use mathlib.Core.List.{List}
+use mathlib.Core.List.{List, [], _∷_}
 use Prim.Native.Nat.{_+_, _≤_}
 use lib.ListN.{length}
 use lib.Ieee.{Float}
 use Rattle.refusal.specs.Limits.{mostPoints}
-use Rattle.path.specs.InnerPushes.{putPoints, course, advanced}
+use Rattle.path.specs.InnerPushes.{putPoints}
+use Rattle.path.specs.Courses.{course, advanced}
 use Rattle.path_adaptive.specs.declared.write.Mark.{Mark}
 use Rattle.path_adaptive.specs.Walk.{Walk}
 
@@ -20,3 +21,8 @@ pub record Fits (w : Walk) (m : Mark) : Type 0 where
 pub record Inks (w : Walk) (a : List Float) (m : Mark) (b : List Float) (n : Mark) : Type 0 where
   pub ink : course b (n .points) ≡ advanced putPoints (course a (m .points)) (w .points)
   pub count : n .halvings ≡ m .halvings + w .halvings
+
+-- no walk ends too deep
+unfoldable pub Calm : List Walk → Type 0
+Calm [] = Unit {0}
+Calm (w ∷ ws) = (w .deep ≡ false) × Calm ws

@@ -1,5 +1,5 @@
 -- What a walk meets first: the room for points and starts that is left, or a refusal.
-use mathlib.Core.Bool.{Bool, true, false, cond}
+use mathlib.Core.Bool.{cond}
 use mathlib.Core.List.{List, [], _∷_}
 use Prim.Native.Nat.{_-_}
 use lib.ListN.{length}
@@ -15,11 +15,6 @@ use Rattle.path_adaptive.specs.Walk.{Walk}
 unfoldable pub spent : Tally → Walk → Tally
 spent (Met r) w = Met r
 spent (Left points starts) w = cond (leb (length (w .points)) points) (cond (w .deep) (Met Deep) (Left (points - length (w .points)) starts)) (Met Room)
-
--- after one point
-unfoldable pub pointed : Tally → Tally
-pointed (Met r) = Met r
-pointed (Left points starts) = cond (leb 1 points) (Left (points - 1) starts) (Met Room)
 
 -- after a start
 unfoldable pub begun : Tally → Tally
@@ -37,7 +32,3 @@ spentAll t (w ∷ ws) = spentAll (spentStroke t w) ws
 abbrev pub verdictBy : Tally → Verdict
 verdictBy (Left points starts) = Accepted
 verdictBy (Met r) = Refused r
-
-abbrev pub stoppedOf : Tally → Bool
-stoppedOf (Left points starts) = false
-stoppedOf (Met r) = true

@@ -1,5 +1,4 @@
 -- Halving spans until they are short on the screen: the points in the order of the walk, left half first.
-use mathlib.Core.Path.{_≡_}
 use mathlib.Core.Bool.{Bool, true, false, cond, _&&_, _||_}
 use mathlib.Core.List.{List, [], _∷_, _++_, map}
 use Prim.Native.Nat.{ℕ, zero, suc, _+_, _/_}
@@ -38,8 +37,8 @@ outsideOf view a b =
     bothBelow zero64 (a .x) (b .x) || bothBelow zero64 (a .y) (b .y) || bothAbove (view .width) (a .x) (b .x) || bothAbove (view .height) (a .y) (b .y)
 
 -- a span that is not halved: past a side, shorter than a step on the screen, or short in itself
-unfoldable pub endsOf : View → Shown → Shown → Bool
-endsOf view a b =
+unfoldable pub spanEnds : View → Shown → Shown → Bool
+spanEnds view a b =
     outsideOf view (a .seen) (b .seen) || lt (distanceSquaredOf (a .seen) (b .seen)) (view .square)
     || lt (distanceSquaredOf (a .here) (b .here)) (view .tolerance)
 
@@ -52,36 +51,40 @@ pub record Walk : Type 0 where
 abbrev pub none : Walk
 none = record { points = []; halvings = 0; deep = false }
 
-abbrev pub one : Vector → Walk
-one v = record { points = v ∷ []; halvings = 0; deep = false }
+abbrev pub onePoint : Vector → Walk
+onePoint v = record { points = v ∷ []; halvings = 0; deep = false }
 
 abbrev pub stuck : Walk
 stuck = record { points = []; halvings = 0; deep = true }
 
 -- a walk, and, where it came to its end, the one after it
-unfoldable pub join : Walk → Walk → Walk
-join l r = record { points = l .points ++ cond (l .deep) [] (r .points); halvings = l .halvings + cond (l .deep) 0 (r .halvings); deep = cond (l .deep) true (r .deep) }
+unfoldable pub followedBy : Walk → Walk → Walk
+followedBy l r = record { points = l .points ++ cond (l .deep) [] (r .points); halvings = l .halvings + cond (l .deep) 0 (r .halvings); deep = cond (l .deep) true (r .deep) }
 
 abbrev pub halved : Walk → Walk
 halved w = record { points = w .points; halvings = 1 + w .halvings; deep = w .deep }
 
 -- what the span from a to b gives after a, where n halvings may lie on each other
 unfoldable pub walk : ℕ → View → Shown → Shown → Walk
-walk zero view a b = cond (endsOf view a b) (one (b .here)) stuck
+walk zero view a b = cond (spanEnds view a b) (onePoint (b .here)) stuck
 walk (suc n) view a b =
     let m = middleOf view a b in
-    let w = halved (join (walk n view a m) (walk n view m b)) in
-    cond (endsOf view a b) (one (b .here)) w
+    let w = halved (followedBy (walk n view a m) (walk n view m b)) in
+    cond (spanEnds view a b) (onePoint (b .here)) w
+
+-- a span that deep is halved no more
+abbrev pub mostHalvings : ℕ
+mostHalvings = 64
 
 -- the spans from a over the points that follow it
 unfoldable pub walkFrom : View → Shown → List Vector → Walk
 walkFrom view a [] = none
-walkFrom view a (v ∷ vs) = join (walk 64 view a (shownOf view v)) (walkFrom view (shownOf view v) vs)
+walkFrom view a (v ∷ vs) = followedBy (walk mostHalvings view a (shownOf view v)) (walkFrom view (shownOf view v) vs)
 
 -- a stroke: its first point, then its spans; one of one point stays
 unfoldable pub strokeWalked : View → List Vector → Walk
 strokeWalked view [] = none
-strokeWalked view (v ∷ vs) = join (one v) (walkFrom view (shownOf view v) vs)
+strokeWalked view (v ∷ vs) = followedBy (onePoint v) (walkFrom view (shownOf view v) vs)
 
 -- every stroke of the list
 unfoldable pub walksOf : View → List Float → List ℕ → List Walk
@@ -94,8 +97,3 @@ adapted ws = map (λ (w : Walk). w .points) ws
 unfoldable pub halvingsOf : List Walk → ℕ
 halvingsOf [] = 0
 halvingsOf (w ∷ ws) = w .halvings + halvingsOf ws
-
--- no walk ends too deep
-unfoldable pub Calm : List Walk → Type 0
-Calm [] = Unit {0}
-Calm (w ∷ ws) = (w .deep ≡ false) × Calm ws

@@ -23,7 +23,7 @@ ghost use mathlib.Core.Path.{_≡_};
 ghost use Rattle.path.specs.Call.{left};
 ghost use Rattle.path.specs.Tests.{entriesGood};
 ghost use Rattle.path_adaptive.specs.Tally.{verdictBy};
-ghost use Rattle.path_adaptive.specs.Call.{said, entriesOf, numbersGood, pointRoom, adaptiveVerdict, adaptiveLeft};
+ghost use Rattle.path_adaptive.specs.Call.{said, entriesOf, numbersGood, pointRoom, verdictOf, adaptiveLeft};
 
 // What chop_adaptive wrote and how many halvings it made, or why it was refused.
 pub enum Adapted {
@@ -136,7 +136,7 @@ fn adaptive_verdict(
     room: usize,
     start_room: usize,
 ) -> Verdict
-    ensures { λ r. ⌜ r ≡ adaptiveVerdict (now (points .entry)) (now (starts .entry)) matrix width height step tolerance room «start_room» ⌝ }
+    ensures { λ r. ⌜ r ≡ verdictOf (now (points .entry)) (now (starts .entry)) matrix width height step tolerance room «start_room» ⌝ }
 {
     if !shaped(points, starts) {
         return Verdict::Refused(Refusal::Shape);

@@ -17,10 +17,10 @@ ghost use mathlib.Core.Bool.{false};
 ghost use Prim.Native.Nat.{_-_, _≤_};
 ghost use Rattle.refusal.specs.Limits.{mostPoints};
 ghost use Rattle.path.specs.Strokes.{pointAt, gather};
-ghost use Rattle.path_adaptive.specs.Walk.{endsOf, walk, walkFrom, strokeWalked, walksOf};
-ghost use Rattle.path_adaptive.specs.Tally.{pointed, begun, spentStroke, spentAll};
+ghost use Rattle.path_adaptive.specs.Walk.{spanEnds, mostHalvings, walk, walkFrom, strokeWalked, walksOf};
+ghost use Rattle.path_adaptive.specs.Tally.{begun, spentStroke, spentAll};
+ghost use Rattle.path_adaptive.specs.InnerMeasure.{pointed, tallyOf, pointsOf, Takes, Meets};
 ghost use Rattle.path_adaptive.specs.InnerSpan.{viewAt, shownAt};
-ghost use Rattle.path_adaptive.specs.InnerMeasure.{tallyOf, pointsOf, Takes, Meets};
 
 // What the walk of a span hands on is one word: the points left, MOST_POINTS at most, or what stopped it.
 // (A word comes back in a register, an enum through memory, and there is one at every halving.)
@@ -83,7 +83,7 @@ fn collector(left: usize) -> usize
 }
 
 // What the walk of a span meets, with a falling depth: from a, at s on the screen, to b, at t. (Four vectors, and not two of them in a
-// struct each: on x86-64 those come in through memory, and every span took half as long again.)
+// struct each: on x86-64 those come in through memory, and every span takes half as long again.)
 fn recursive_subdivide(
     lens: &[f64; 20],
     a: Vector,
@@ -112,7 +112,7 @@ fn halve(
     depth: u32,
     left: usize,
 ) -> usize
-    requires { ⌜ (endsOf (viewAt (now lens)) (shownAt a s) (shownAt b t) ≡ false) × (left ≤ mostPoints) ⌝ }
+    requires { ⌜ (spanEnds (viewAt (now lens)) (shownAt a s) (shownAt b t) ≡ false) × (left ≤ mostPoints) ⌝ }
     ensures { λ r. ⌜ Meets left (walk depth (viewAt (now (lens .entry))) (shownAt a s) (shownAt b t)) r ⌝ }
 {
     if depth == 0 {
@@ -130,7 +130,7 @@ fn halve(
 
 // What the walk of a span meets, where it is not stopped before.
 fn measure_span(lens: &[f64; 20], a: Shown, b: Shown, left: usize) -> usize
-    ensures { λ r. ⌜ Meets left (walk 64 (viewAt (now (lens .entry))) a b) r ⌝ }
+    ensures { λ r. ⌜ Meets left (walk mostHalvings (viewAt (now (lens .entry))) a b) r ⌝ }
 {
     if left > MOST_POINTS {
         return left;

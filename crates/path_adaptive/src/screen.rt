@@ -5,7 +5,7 @@ use vector::Vector;
 use vector::matrix::Matrix;
 ghost use mathlib.Core.Path.{_≡_};
 ghost use Rattle.path_adaptive.specs.InnerSpan.{viewAt, shownAt, middleAt};
-ghost use Rattle.path_adaptive.specs.Walk.{viewOf, shownOf, bothBelow, bothAbove, outsideOf, endsOf};
+ghost use Rattle.path_adaptive.specs.Walk.{viewOf, shownOf, bothBelow, bothAbove, outsideOf, spanEnds};
 
 // The screen of a call, with the step squared.
 pub(crate) fn view_of(matrix: Matrix, width: f64, height: f64, step: f64, tolerance: f64) -> View
@@ -134,13 +134,13 @@ fn outside(view: View, a: Vector, b: Vector) -> bool
 
 // Whether a span from a, at s on the screen, to b, at t, is not halved.
 pub(crate) fn terminator(lens: &[f64; 20], a: Vector, s: Vector, b: Vector, t: Vector) -> bool
-    ensures { λ r. ⌜ r ≡ endsOf (viewAt (now (lens .entry))) (shownAt a s) (shownAt b t) ⌝ }
+    ensures { λ r. ⌜ r ≡ spanEnds (viewAt (now (lens .entry))) (shownAt a s) (shownAt b t) ⌝ }
 {
     ends(view_at(lens), a, s, b, t)
 }
 
 fn ends(view: View, a: Vector, s: Vector, b: Vector, t: Vector) -> bool
-    ensures { λ r. ⌜ r ≡ endsOf view (shownAt a s) (shownAt b t) ⌝ }
+    ensures { λ r. ⌜ r ≡ spanEnds view (shownAt a s) (shownAt b t) ⌝ }
 {
     if outside(view, s, t) {
         return true;

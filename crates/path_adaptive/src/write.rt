@@ -20,9 +20,9 @@ ghost use Rattle.refusal.specs.Limits.{mostPoints};
 ghost use Rattle.path.specs.Strokes.{pointAt, gather};
 ghost use Rattle.path.specs.Laid.{joined};
 ghost use Rattle.path.specs.InnerPushes.{putPoints, out, push, pushAll};
-ghost use Rattle.path_adaptive.specs.Walk.{endsOf, one, walk, walkFrom, strokeWalked, walksOf, adapted, halvingsOf, Calm};
+ghost use Rattle.path_adaptive.specs.Walk.{spanEnds, onePoint, mostHalvings, walk, walkFrom, strokeWalked, walksOf, adapted, halvingsOf};
+ghost use Rattle.path_adaptive.specs.InnerWrite.{Calm, Fits, Inks};
 ghost use Rattle.path_adaptive.specs.InnerSpan.{viewAt, shownAt};
-ghost use Rattle.path_adaptive.specs.InnerWrite.{Fits, Inks};
 
 // Where the next point goes, and how many halvings were made so far.
 struct Mark {
@@ -39,7 +39,7 @@ pub(crate) struct Made {
 // Writes a point.
 fn collector(out: &mut [f64], at: Mark, v: Vector) -> Mark
     requires { ⌜ at .points < mostPoints ⌝ }
-    ensures { λ r. ⌜ Inks (one v) (now (out .entry)) at (now (out .exit)) r ⌝ }
+    ensures { λ r. ⌜ Inks (onePoint v) (now (out .entry)) at (now (out .exit)) r ⌝ }
 {
     put_point(out, at.points, v);
     Mark {
@@ -79,7 +79,7 @@ fn halve(
     out: &mut [f64],
     at: Mark,
 ) -> Mark
-    requires { ⌜ (endsOf (viewAt (now lens)) (shownAt a s) (shownAt b t) ≡ false) × Fits (walk depth (viewAt (now lens)) (shownAt a s) (shownAt b t)) at ⌝ }
+    requires { ⌜ (spanEnds (viewAt (now lens)) (shownAt a s) (shownAt b t) ≡ false) × Fits (walk depth (viewAt (now lens)) (shownAt a s) (shownAt b t)) at ⌝ }
     ensures { λ r. ⌜ Inks (walk depth (viewAt (now (lens .entry))) (shownAt a s) (shownAt b t)) (now (out .entry)) at (now (out .exit)) r ⌝ }
 {
     if depth == 0 {
@@ -98,8 +98,8 @@ fn halve(
 
 // Writes the walk of a span.
 fn write_span(lens: &[f64; 20], a: Shown, b: Shown, out: &mut [f64], at: Mark) -> Mark
-    requires { ⌜ Fits (walk 64 (viewAt (now lens)) a b) at ⌝ }
-    ensures { λ r. ⌜ Inks (walk 64 (viewAt (now (lens .entry))) a b) (now (out .entry)) at (now (out .exit)) r ⌝ }
+    requires { ⌜ Fits (walk mostHalvings (viewAt (now lens)) a b) at ⌝ }
+    ensures { λ r. ⌜ Inks (walk mostHalvings (viewAt (now (lens .entry))) a b) (now (out .entry)) at (now (out .exit)) r ⌝ }
 {
     let p = a.here;
     let q = b.here;

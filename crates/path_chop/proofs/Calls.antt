@@ -13,7 +13,7 @@ use Rattle.vector.specs.declared.Vector.{Vector}
 use Rattle.path.specs.Laid.{joined, nonEmpty}
 use Rattle.path.proofs.Tests.{passed, both, few-strokes}
 use Rattle.path_chop.specs.Chop.{choppedOf}
-use Rattle.path_chop.specs.Call.{roomFor, chopVerdict}
+use Rattle.path_chop.specs.Call.{roomFor, verdictOf}
 
 -- what there is room for
 fitting : (ss : List (List Vector)) (room startRoom : ℕ) → roomFor ss room startRoom ≡ true
@@ -26,10 +26,10 @@ fitting ss room startRoom h =
     let some = both few fit (all .0) in
     (leb-true _ _ (some .0), leb-true _ _ (some .1), leb-true _ _ (all .1))
 
-pub chop-accepted : (ps : List Float) (ss : List ℕ) (step : Float) (room startRoom : ℕ) → chopVerdict ps ss step room startRoom ≡ Accepted
+pub chop-accepted : (ps : List Float) (ss : List ℕ) (step : Float) (room startRoom : ℕ) → verdictOf ps ss step room startRoom ≡ Accepted
     → (length (joined (choppedOf step ps ss)) ≤ mostPoints) × (length (joined (choppedOf step ps ss)) * 3 ≤ room)
     × (length (nonEmpty (choppedOf step ps ss)) ≤ startRoom) × (length ss ≤ mostStrokes)
-unfolding chopVerdict
+unfolding verdictOf
 chop-accepted ps ss step room startRoom h =
     let shape = passed _ _ _ h in
     let count = passed _ _ _ (shape .1) in

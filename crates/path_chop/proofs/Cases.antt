@@ -11,9 +11,9 @@ use Rattle.path.specs.Laid.{nonEmpty, joined}
 use Rattle.path.specs.Tests.{shapedOf, countedOf, coordinatesGood, stepGood}
 use Rattle.path.specs.Call.{laid}
 use Rattle.path_chop.specs.Chop.{stepsOf, cut, span, spans, chopped, choppedBy}
-use Rattle.path_chop.specs.Call.{roomFor, chopVerdict, chopLeft}
+use Rattle.path_chop.specs.Call.{roomFor, verdictOf, chopLeft}
 use Rattle.path_chop.specs.Cases.{line, Holds, paper}
 
 pub cases : Each Holds paper
-unfolding paper line chopLeft outcome laid chopVerdict unless shapedOf goodStarts goodFrom countedOf coordinatesGood stepGood absOf roomFor choppedBy strokesOf gather pointAt chopped spans span cut stepsOf joined nonEmpty rootOf ofBits ofFields add sub mul div lt le
+unfolding paper line chopLeft outcome laid verdictOf unless shapedOf goodStarts goodFrom countedOf coordinatesGood stepGood absOf roomFor choppedBy strokesOf gather pointAt chopped spans span cut stepsOf joined nonEmpty rootOf ofBits ofFields add sub mul div lt le
 cases = (refl, (refl, tt))

@@ -15,12 +15,13 @@ use Rattle.vector.specs.Vectors.{subOf, lengthSquaredOf}
 use Rattle.vector.specs.Lengths.{orNan, lengthOf}
 use Rattle.vector.proofs.Order.{lt-one-way}
 use Rattle.path.specs.Strokes.{pointAt, gather}
-use Rattle.path.specs.InnerPushes.{putPoint, putPoints, Course, course, advanced}
+use Rattle.path.specs.InnerPushes.{putPoint, putPoints}
+use Rattle.path.specs.Courses.{Course, course, advanced}
 use Rattle.path.proofs.Gathers.{gather-more, gather-none, length-gather, strokes-more, strokes-none}
 use Rattle.path.proofs.Pushes.{ink-at, ink-none, ink-append}
 use Rattle.path.proofs.Points.{points-lie, ink-more}
 use Rattle.path_chop.specs.Chop.{tooMany, along, stepsOf, cut, span, spans, chopped, choppedBy, choppedOf}
-use Rattle.path_chop.specs.InnerCounts.{reachOf}
+use Rattle.path_chop.specs.InnerCounts.{lengthOrStep}
 
 -- ---- the steps of a span
 
@@ -89,24 +90,24 @@ not-below-itself x = go (lt x x) refl
 
 -- by a test whether a step lies within it
 module _ (step l : Float) {b : Bool} (e : b ≡ lt step l) where
-  pub reach-long : {r : Float} → b ≡ true → r ≡ l → r ≡ reachOf step l
+  pub reach-long : {r : Float} → b ≡ true → r ≡ l → r ≡ lengthOrStep step l
   reach-long t h = rw (sym e ∙ t) h
 
-  pub reach-short : b ≡ false → step ≡ reachOf step l
+  pub reach-short : b ≡ false → step ≡ lengthOrStep step l
   reach-short t = rw (sym e ∙ t)
 
 -- by the square of the length
-pub reach-is : (step s r : Float) (v : Vector) → s ≡ lengthSquaredOf v → r ≡ reachOf step (orNan (rootOf s)) → r ≡ reachOf step (lengthOf v)
-reach-is step s r v e f = f ∙ ap (λ (z : Float). reachOf step (orNan (rootOf z))) e
+pub reach-is : (step s r : Float) (v : Vector) → s ≡ lengthSquaredOf v → r ≡ lengthOrStep step (orNan (rootOf s)) → r ≡ lengthOrStep step (lengthOf v)
+reach-is step s r v e f = f ∙ ap (λ (z : Float). lengthOrStep step (orNan (rootOf z))) e
 
-pub reach-cut : (n : ℕ) (f : Float → Float → Vector) (step l : Float) → map (f (reachOf step l)) (stepsOf n (reachOf step l) step step) ≡ map (f l) (stepsOf n l step step)
+pub reach-cut : (n : ℕ) (f : Float → Float → Vector) (step l : Float) → map (f (lengthOrStep step l)) (stepsOf n (lengthOrStep step l) step step) ≡ map (f l) (stepsOf n l step step)
 reach-cut n f step l = go (lt step l) refl
   where
     go : (b : Bool) → lt step l ≡ b → map (f (cond b l step)) (stepsOf n (cond b l step) step step) ≡ map (f l) (stepsOf n l step step)
     go true e = refl
     go false e = ap (map (f step)) (stop n step step step (not-below-itself step)) ∙ ap (map (f l)) (sym (stop n l step step e))
 
-pub reach-count : (n : ℕ) (step l : Float) → length (stepsOf n (reachOf step l) step step) ≡ length (stepsOf n l step step)
+pub reach-count : (n : ℕ) (step l : Float) → length (stepsOf n (lengthOrStep step l) step step) ≡ length (stepsOf n l step step)
 reach-count n step l = go (lt step l) refl
   where
     go : (b : Bool) → lt step l ≡ b → length (stepsOf n (cond b l step) step step) ≡ length (stepsOf n l step step)
@@ -115,7 +116,7 @@ reach-count n step l = go (lt step l) refl
 
 -- ---- a span: what its steps give, and its end
 
-module _ (step : Float) (a b : Vector) (v : Vector) (l : Float) (ev : v ≡ subOf b a) (el : l ≡ reachOf step (lengthOf v)) where
+module _ (step : Float) (a b : Vector) (v : Vector) (l : Float) (ev : v ≡ subOf b a) (el : l ≡ lengthOrStep step (lengthOf v)) where
   span-is : span tooMany step a b ≡ map (along a v l) (stepsOf tooMany l step step) ++ (b ∷ [])
   unfolding span cut
   span-is = rw (el, ev) (ap (λ (x : List Vector). x ++ (b ∷ [])) (sym (reach-cut tooMany (along a (subOf b a)) step (lengthOf (subOf b a)))))
@@ -142,7 +143,7 @@ module _ (step : Float) (a b : Vector) (v : Vector) (l : Float) (ev : v ≡ subO
 -- by its length
 pub span-count : (step : Float) (a b v : Vector) (l : Float) → v ≡ subOf b a → l ≡ lengthOf v → length (span tooMany step a b) ≡ length (stepsOf tooMany l step step) + 1
 span-count step a b v l ev el =
-    span-length step a b v (reachOf step (lengthOf v)) ev refl ∙ ap (λ (n : ℕ). n + 1) (reach-count tooMany step (lengthOf v)) ∙ ap (λ (x : Float). length (stepsOf tooMany x step step) + 1) (sym el)
+    span-length step a b v (lengthOrStep step (lengthOf v)) ev refl ∙ ap (λ (n : ℕ). n + 1) (reach-count tooMany step (lengthOf v)) ∙ ap (λ (x : Float). length (stepsOf tooMany x step step) + 1) (sym el)
 
 -- ---- the spans of a stroke
 

@@ -17,7 +17,7 @@ use Rattle.path.specs.Laid.{joined, nonEmpty}
 use Rattle.path.proofs.Tests.{split}
 use Rattle.path.proofs.Pushes.{some-kept, none-kept}
 use Rattle.path_chop.specs.Chop.{tooMany, stepsOf, span, spans, chopped}
-use Rattle.path_chop.specs.InnerCounts.{keptOf, capped}
+use Rattle.path_chop.specs.InnerCounts.{leavesSome, capped}
 use Rattle.path_chop.proofs.Chops.{steps-within, span-count, spans-more, stroke-short, stroke-some}
 
 -- ---- a count that is cut off
@@ -51,22 +51,22 @@ count-within so-far rest l step h =
 
 -- ---- strokes that are kept
 
-pub kept-some : (n : ℕ) → 2 ≤ n → keptOf n ≡ 1
-unfolding keptOf
+pub kept-some : (n : ℕ) → 2 ≤ n → leavesSome n ≡ 1
+unfolding leavesSome
 kept-some n h = rw (le-leb 2 n h)
 
-pub kept-none : (n : ℕ) → n < 2 → keptOf n ≡ 0
-unfolding keptOf
+pub kept-none : (n : ℕ) → n < 2 → leavesSome n ≡ 0
+unfolding leavesSome
 kept-none n h = rw (lt-leb 2 n h)
 
 -- what the number says of the stroke
-pub kept-zero : (n : ℕ) → keptOf n ≡ 0 → n < 2
+pub kept-zero : (n : ℕ) → leavesSome n ≡ 0 → n < 2
 kept-zero n e = ⊎-elim (λ h. absurd (omega (arith, kept-some n h))) (λ h. h) (split 2 n)
 
-pub kept-one : (n : ℕ) → (keptOf n ≡ 0 → ⊥) → 2 ≤ n
+pub kept-one : (n : ℕ) → (leavesSome n ≡ 0 → ⊥) → 2 ≤ n
 kept-one n z = ⊎-elim (λ h. h) (λ h. absurd (z (kept-none n h))) (split 2 n)
 
-pub kept-most : (n : ℕ) → keptOf n ≤ 1
+pub kept-most : (n : ℕ) → leavesSome n ≤ 1
 kept-most n = ⊎-elim (λ h. omega (arith, kept-some n h)) (λ h. omega (arith, kept-none n h)) (split 2 n)
 
 -- ---- one span, one stroke more in the count
@@ -82,7 +82,7 @@ module _ (step : Float) (at : ℕ → Vector) (a e : ℕ) {rest all : List (List
   unfolding joined
   joined-count = rw f (length-append (chopped tooMany step (gather at a (e - a))) (joined rest))
 
-  pub kept-count : length (nonEmpty all) ≡ keptOf (e - a) + length (nonEmpty rest)
+  pub kept-count : length (nonEmpty all) ≡ leavesSome (e - a) + length (nonEmpty rest)
   kept-count =
       rw f
       (⊎-elim

@@ -13,7 +13,7 @@ use Rattle.vector.specs.Lengths.{lengthOf}
 use Rattle.path.specs.Strokes.{pointAt, strokesOf}
 use Rattle.path.specs.Laid.{joined}
 use Rattle.path_chop.specs.Chop.{tooMany, along, stepsOf, cut, span, spans, chopped, choppedBy, choppedOf}
-use Rattle.path_chop.specs.Call.{chopVerdict}
+use Rattle.path_chop.specs.Call.{verdictOf}
 use Rattle.path_chop.proofs.Chops.{steps-limit}
 use Rattle.path_chop.proofs.Calls.{chop-accepted}
 
@@ -53,7 +53,7 @@ module _ (k n : ℕ) (step : Float) where
       ap (λ (x : List Vector). x ∷ map (chopped (k + n) step) ss) (chopped-same s (omega arith))
       ∙ ap (λ (x : List (List Vector)). chopped k step s ∷ x) (strokes-same ss (omega arith))
 
-pub never-cut-off : (ps : List Float) (ss : List ℕ) (step : Float) (room startRoom : ℕ) → chopVerdict ps ss step room startRoom ≡ Accepted
+pub never-cut-off : (ps : List Float) (ss : List ℕ) (step : Float) (room startRoom : ℕ) → verdictOf ps ss step room startRoom ≡ Accepted
     → (n : ℕ) → choppedBy (tooMany + n) step ps ss ≡ choppedOf step ps ss
 unfolding choppedBy
 never-cut-off ps ss step room startRoom h n =

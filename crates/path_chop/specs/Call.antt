@@ -29,8 +29,8 @@ said (C.Refused r) = refused r
 unfoldable pub roomFor : List (List Vector) → ℕ → ℕ → Bool
 roomFor ss room startRoom = leb (length (joined ss)) mostPoints && leb (length (joined ss) * 3) room && leb (length (nonEmpty ss)) startRoom
 
-unfoldable pub chopVerdict : List Float → List ℕ → Float → ℕ → ℕ → Verdict
-chopVerdict ps ss step room startRoom =
+unfoldable pub verdictOf : List Float → List ℕ → Float → ℕ → ℕ → Verdict
+verdictOf ps ss step room startRoom =
     unless (shapedOf ps ss) Shape
     (unless (countedOf (length ps / 3) (length ss)) Count
     (unless (coordinatesGood ps) Number
@@ -39,4 +39,4 @@ chopVerdict ps ss step room startRoom =
     Accepted))))
 
 unfoldable pub chopLeft : List Float → List ℕ → Float → List Float → List ℕ → Outcome Lent
-chopLeft ps ss step op os = outcome (chopVerdict ps ss step (length op) (length os)) (lent op os) (laid [] (choppedOf step ps ss) op os)
+chopLeft ps ss step op os = outcome (verdictOf ps ss step (length op) (length os)) (lent op os) (laid [] (choppedOf step ps ss) op os)

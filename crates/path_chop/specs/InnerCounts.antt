@@ -6,12 +6,12 @@ use lib.Ieee.{Float, lt}
 use Rattle.path_chop.specs.Chop.{tooMany}
 
 -- a length, or the step where no step lies within it: what is cut is the same (`reach-cut`, proofs/Chops)
-abbrev pub reachOf : Float → Float → Float
-reachOf step l = cond (lt step l) l step
+abbrev pub lengthOrStep : Float → Float → Float
+lengthOrStep step l = cond (lt step l) l step
 
 -- 1 where a stroke of n points leaves something, 0 where it vanishes
-unfoldable pub keptOf : ℕ → ℕ
-keptOf n = cond (leb 2 n) 1 0
+unfoldable pub leavesSome : ℕ → ℕ
+leavesSome n = cond (leb 2 n) 1 0
 
 -- a count of points, no longer counted where it is above the most
 unfoldable pub capped : ℕ → ℕ

@@ -25,13 +25,14 @@ ghost use Rattle.refusal.specs.Limits.{mostPoints};
 ghost use Rattle.vector.specs.Root.{rootOf};
 ghost use Rattle.vector.specs.Lengths.{orNan, lengthOf};
 ghost use Rattle.vector.specs.Vectors.{subOf};
-ghost use Rattle.path.specs.Strokes.{pointAt, gather, strokesOf};
+ghost use Rattle.path.specs.Strokes.{pointAt, gather};
 ghost use Rattle.path.specs.Laid.{joined, nonEmpty};
-ghost use Rattle.path.specs.InnerPushes.{putPoints, course, advanced, out, push, pushAll};
+ghost use Rattle.path.specs.InnerPushes.{putPoints, out, push, pushAll};
+ghost use Rattle.path.specs.Courses.{course, advanced};
 ghost use Rattle.path.specs.Call.{left};
-ghost use Rattle.path_chop.specs.Chop.{tooMany, along, stepsOf, cut, span, spans, chopped, choppedOf};
-ghost use Rattle.path_chop.specs.InnerCounts.{reachOf, keptOf, capped};
-ghost use Rattle.path_chop.specs.Call.{said, roomFor, chopVerdict, chopLeft};
+ghost use Rattle.path_chop.specs.Chop.{tooMany, along, stepsOf, span, spans, chopped, choppedOf};
+ghost use Rattle.path_chop.specs.InnerCounts.{lengthOrStep, leavesSome, capped};
+ghost use Rattle.path_chop.specs.Call.{said, roomFor, verdictOf, chopLeft};
 
 // What a chop wrote, or why it was refused.
 pub enum Chopped {
@@ -82,7 +83,7 @@ fn write_steps(a: Vector, v: Vector, l: f64, step: f64, out: &mut [f64], at: usi
 
 // The length of a span by its square, or the step where none lies within the span: the root is worked out only where it serves.
 fn reach(square: f64, step: f64) -> f64
-    ensures { λ r. ⌜ r ≡ reachOf step (orNan (rootOf square)) ⌝ }
+    ensures { λ r. ⌜ r ≡ lengthOrStep step (orNan (rootOf square)) ⌝ }
 {
     if root_exceeds(square, step) {
         return root_or_nan(square);
@@ -100,7 +101,7 @@ fn write_span(
     out: &mut [f64],
     at: usize,
 ) -> usize
-    requires { ⌜ (v ≡ subOf b a) × (l ≡ reachOf step (lengthOf v)) × (at + length (span tooMany step a b) ≤ mostPoints) ⌝ }
+    requires { ⌜ (v ≡ subOf b a) × (l ≡ lengthOrStep step (lengthOf v)) × (at + length (span tooMany step a b) ≤ mostPoints) ⌝ }
     ensures { λ r. ⌜ course (now (out .exit)) r ≡ advanced putPoints (course (now (out .entry)) at) (span tooMany step a b) ⌝ }
 {
     let o = write_steps(a, v, l, step, out, at);
@@ -142,7 +143,7 @@ fn write_spans(
 
 // 1 where the stroke from place a up to e leaves something, 0 where it vanishes.
 fn kept(a: usize, e: usize) -> usize
-    ensures { λ r. ⌜ r ≡ keptOf (e - a) ⌝ }
+    ensures { λ r. ⌜ r ≡ leavesSome (e - a) ⌝ }
 {
     if a < e {
         if 2 <= e - a {
@@ -381,7 +382,7 @@ fn chop_verdict(
     room: usize,
     start_room: usize,
 ) -> Verdict
-    ensures { λ r. ⌜ r ≡ chopVerdict (now (points .entry)) (now (starts .entry)) step room «start_room» ⌝ }
+    ensures { λ r. ⌜ r ≡ verdictOf (now (points .entry)) (now (starts .entry)) step room «start_room» ⌝ }
 {
     if !shaped(points, starts) {
         return Verdict::Refused(Refusal::Shape);

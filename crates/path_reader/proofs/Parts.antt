@@ -3,7 +3,7 @@ use mathlib.Core.Path.{_≡_, refl, sym, ap, _∙_}
 use mathlib.Core.Logic.{_⊎_, inl, inr}
 use mathlib.Core.Bool.{true}
 use mathlib.Core.List.{List, [], _∷_}
-use Prim.Native.Nat.{ℕ, zero, suc, _+_, _-_, _*_, _≤_, _<_}
+use Prim.Native.Nat.{ℕ, suc, _+_, _-_, _*_, _≤_, _<_}
 use native.Mathlib.Omega.{arith}
 use native.Mathlib.Nat.{add-zero}
 use lib.ListN.{length, getD, take, drop, length-drop, drop-of-length-le}
@@ -14,7 +14,7 @@ use Rattle.path.specs.Strokes.{goodFrom, goodStarts, gather, strokesOf, numberA
 use Rattle.path.proofs.Tests.{both, split}
 use Rattle.path.proofs.Gathers.{gather-drop}
 use Rattle.path.proofs.Starts.{table-next}
-use Rattle.path_reader.specs.Reading.{least, strokeAt, leftAt, after, handed}
+use Rattle.path_reader.specs.Reading.{least, strokeAt, leftAt, strokeAfter, handed}
 
 -- the lesser of two numbers is at most either
 pub least-is : (x y : ℕ) → ((least x y ≡ x) × (x ≤ y)) ⊎ ((least x y ≡ y) × (y ≤ x))
@@ -77,7 +77,7 @@ module _ (ps ss : List ℕ) (i s : ℕ) (rest : List ℕ) (q : drop i ss ≡ s �
   unfolding strokeAt
   stroke-is h k = rw (at-first ss i s rest q (length ps), at-second ss i s rest q (length ps)) (sym (gather-drop ps s (getD rest 0 (length ps) - s) (omega arith)))
 
-  after-is : after ss i ≡ i + 1
+  after-is : strokeAfter ss i ≡ i + 1
   after-is = rw (lt-ltb i (length ss) (within ss i s rest q))
 
 -- what is handed out from the i-th stroke on are the strokes of the table from there on
@@ -101,9 +101,9 @@ handed-all ps (s ∷ ss) g =
     rw e (handed-from ps (s ∷ ss) 0 s ss refl (omega arith) (b .1))
 
 -- each stroke that is handed out is one fewer left, and where none is left the reader stays
-pub left-after : (ss : List ℕ) (i : ℕ) → leftAt ss (after ss i) ≡ leftAt ss i - 1
+pub left-after : (ss : List ℕ) (i : ℕ) → leftAt ss (strokeAfter ss i) ≡ leftAt ss i - 1
 left-after ss i = go (split (length ss) i)
   where
-    go : (length ss ≤ i) ⊎ (i < length ss) → leftAt ss (after ss i) ≡ leftAt ss i - 1
+    go : (length ss ≤ i) ⊎ (i < length ss) → leftAt ss (strokeAfter ss i) ≡ leftAt ss i - 1
     go (inl h) = rw (le-ltb i (length ss) h) (omega arith)
     go (inr h) = rw (lt-ltb i (length ss) h) (omega arith)

@@ -29,10 +29,10 @@ abbrev pub leftAt : List ℕ → ℕ → ℕ
 leftAt ss i = length ss - i
 
 -- the number of the stroke after the i-th; past the table it stays
-abbrev pub after : List ℕ → ℕ → ℕ
-after ss i = cond (ltb i (length ss)) (i + 1) i
+abbrev pub strokeAfter : List ℕ → ℕ → ℕ
+strokeAfter ss i = cond (ltb i (length ss)) (i + 1) i
 
 -- what is handed out until none is left, from the i-th stroke on, k strokes being left
 unfoldable pub handed : List ℕ → List ℕ → ℕ → ℕ → List (List ℕ)
 handed ps ss i zero = []
-handed ps ss i (suc k) = strokeAt ps ss i ∷ handed ps ss (after ss i) k
+handed ps ss i (suc k) = strokeAt ps ss i ∷ handed ps ss (strokeAfter ss i) k

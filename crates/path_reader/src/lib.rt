@@ -4,7 +4,7 @@ use path::end_of;
 ghost use mathlib.Core.Path.{_≡_};
 ghost use Prim.Native.Nat.{_≤_};
 ghost use lib.ListN.{getD};
-ghost use Rattle.path_reader.specs.Reading.{least, firstAt, Own, leftAt, after};
+ghost use Rattle.path_reader.specs.Reading.{least, firstAt, Own, leftAt, strokeAfter};
 
 // The lent points and starts, and the number of the stroke that comes next.
 pub struct Reader<'a> {
@@ -65,7 +65,7 @@ pub fn left_at(starts: &[u32], i: usize) -> usize
 
 // The number of the stroke after the i-th; past the table it stays.
 pub fn next_at(starts: &[u32], i: usize) -> usize
-    ensures { λ r. ⌜ r ≡ after (now (starts .entry)) i ⌝ }
+    ensures { λ r. ⌜ r ≡ strokeAfter (now (starts .entry)) i ⌝ }
 {
     if i < starts.len() {
         return i + 1;
@@ -100,7 +100,7 @@ pub fn next<'a>(r: Reader<'a>) -> &'a [u32]
 
 // The reader after that stroke.
 pub fn rest<'a>(r: Reader<'a>) -> Reader<'a>
-    ensures { λ q. ⌜ (q .points ≡ r .entry .points) × (q .starts ≡ r .entry .starts) × (q .at ≡ after (now (r .entry .starts)) (r .entry .at)) ⌝ }
+    ensures { λ q. ⌜ (q .points ≡ r .entry .points) × (q .starts ≡ r .entry .starts) × (q .at ≡ strokeAfter (now (r .entry .starts)) (r .entry .at)) ⌝ }
 {
     let at = next_at(r.starts, r.at);
     Reader {

@@ -16,7 +16,7 @@ use Rattle.path.specs.Tests.{shapedOf}
 use Rattle.path.proofs.Tests.{passed, both, few-strokes, few-points}
 use Rattle.path.proofs.Pushes.{no-more-kept}
 use Rattle.path_simplify.specs.Simplify.{simplified, distances, simplifiedOf}
-use Rattle.path_simplify.specs.Call.{shortOf, roomFor, simplifyVerdict}
+use Rattle.path_simplify.specs.Call.{shortOf, roomFor, verdictOf}
 use Rattle.path_simplify.proofs.Totals.{all-most, all-strokes}
 
 pub record Good (ps : List Float) (ss : List ℕ) (t : Float) (room startRoom : ℕ) : Type 0 where
@@ -29,8 +29,8 @@ pub record Good (ps : List Float) (ss : List ℕ) (t : Float) (room startRoom : 
   pub short : shortOf (length ps / 3) ss ≡ true
 
 module _ (ps : List Float) (ss : List ℕ) (t : Float) (room startRoom : ℕ) where
-  pub simplify-accepted : simplifyVerdict ps ss t room startRoom ≡ Accepted → Good ps ss t room startRoom
-  unfolding simplifyVerdict shapedOf roomFor
+  pub simplify-accepted : verdictOf ps ss t room startRoom ≡ Accepted → Good ps ss t room startRoom
+  unfolding verdictOf shapedOf roomFor
   simplify-accepted h =
       let shape = passed _ _ _ h in
       let count = passed _ _ _ (shape .1) in

@@ -13,8 +13,9 @@ use lib.Ieee.{Float}
 use Rattle.vector.specs.declared.Vector.{Vector}
 use Rattle.path_simplify.specs.Simplify.{farthest, splitsAt, Thin, nothing, first, parts, thin}
 use Rattle.path_simplify.specs.InnerSquares.{splitOf}
-use Rattle.path_simplify.specs.InnerNotes.{cleared, measured, noted, count, thinAt, plus}
-use Rattle.path.specs.InnerPushes.{putPoint, putPoints, course, advanced}
+use Rattle.path_simplify.specs.InnerNotes.{cleared, measured, noted, countNoted, thinAt, plus}
+use Rattle.path.specs.InnerPushes.{putPoint, putPoints}
+use Rattle.path.specs.Courses.{course, advanced}
 use Rattle.path.proofs.Tests as tests
 use Rattle.path_simplify.proofs.Thins.{splits-in, thin-split, thin-first, first-measured, parts-measured}
 
@@ -26,21 +27,21 @@ map-more at (x ∷ r) zero i h = refl
 map-more at (x ∷ r) (suc n) i h = ap (λ (l : List Vector). at x ∷ l) (map-more at r n i (omega arith))
 
 module _ (at : ℕ → Vector) where
-  pub cleared-thin : (k k′ : List ℕ) → 1 < length k → k′ ≡ cleared k → (thinAt at k′ ≡ nothing) × (count k′ ≡ 0) × (getD k′ 0 0 ≡ 0) × (length k′ ≡ length k)
+  pub cleared-thin : (k k′ : List ℕ) → 1 < length k → k′ ≡ cleared k → (thinAt at k′ ≡ nothing) × (countNoted k′ ≡ 0) × (getD k′ 0 0 ≡ 0) × (length k′ ≡ length k)
   unfolding thinAt cleared
   cleared-thin [] k′ h e = absurd (omega arith)
   cleared-thin (a ∷ []) k′ h e = absurd (omega arith)
   cleared-thin (a ∷ b ∷ r) k′ h e = rw e (refl, refl, refl, refl)
 
   pub measured-thin : (k k′ : List ℕ) (d : ℕ) → 1 < length k → k′ ≡ measured k d
-      → (thinAt at k′ ≡ plus (thinAt at k) (record { points = []; measured = d })) × (count k′ ≡ count k) × (getD k′ 0 0 ≡ getD k 0 0 + d) × (length k′ ≡ length k)
+      → (thinAt at k′ ≡ plus (thinAt at k) (record { points = []; measured = d })) × (countNoted k′ ≡ countNoted k) × (getD k′ 0 0 ≡ getD k 0 0 + d) × (length k′ ≡ length k)
   unfolding thinAt measured plus
   measured-thin [] k′ d h e = absurd (omega arith)
   measured-thin (a ∷ []) k′ d h e = absurd (omega arith)
   measured-thin (a ∷ b ∷ r) k′ d h e = rw (e, append-nil (map at (take b r))) (refl, refl, refl, refl)
 
-  pub noted-thin : (k k′ : List ℕ) (i : ℕ) → count k + 2 < length k → k′ ≡ noted k i
-      → (thinAt at k′ ≡ plus (thinAt at k) (record { points = at i ∷ []; measured = 0 })) × (count k′ ≡ count k + 1) × (length k′ ≡ length k)
+  pub noted-thin : (k k′ : List ℕ) (i : ℕ) → countNoted k + 2 < length k → k′ ≡ noted k i
+      → (thinAt at k′ ≡ plus (thinAt at k) (record { points = at i ∷ []; measured = 0 })) × (countNoted k′ ≡ countNoted k + 1) × (length k′ ≡ length k)
   unfolding thinAt noted plus
   noted-thin [] k′ i h e = absurd (omega arith)
   noted-thin (a ∷ []) k′ i h e = absurd (omega arith)
@@ -116,7 +117,7 @@ module _ (at : ℕ → Vector) (k : List ℕ) (n i o : ℕ) (b : List Float) whe
   lay-end h = let l : length (take n (drop 2 k)) ≤ i = omega (arith, length-take n (drop 2 k)) in rw (drop-of-length-le (take n (drop 2 k)) l)
 
 module _ (at : ℕ → Vector) (k : List ℕ) (w : Thin) (e : thinAt at k ≡ w) where
-  pub laid-ink : count k ≡ length (w .points) → (b c : List Float) (o : ℕ) → c ≡ putPoints b o (thinAt at k .points) → course c (o + count k) ≡ advanced putPoints (course b o) (w .points)
+  pub laid-ink : countNoted k ≡ length (w .points) → (b c : List Float) (o : ℕ) → c ≡ putPoints b o (thinAt at k .points) → course c (o + countNoted k) ≡ advanced putPoints (course b o) (w .points)
   unfolding advanced
   laid-ink n b c o f = rw (f, n, e)
 

@@ -11,8 +11,7 @@ use borrow.Author.Tests.{lt-ltb}
 use Rattle.vector.specs.declared.Vector.{Vector}
 use Rattle.vector.specs.Lengths.{zero64, segmentDistanceOf}
 use Rattle.vector.proofs.Shares.{le-not-lt}
-use Rattle.path_simplify.specs.declared.Far.{Far}
-use Rattle.path_simplify.specs.Simplify.{fartherOf, farFrom, farthest, splitsAt}
+use Rattle.path_simplify.specs.Simplify.{Far, fartherOf, farFrom, farthest, splitsAt}
 use Rattle.path_simplify.specs.Call.{thresholdGood}
 
 -- past lo, or where the scan began

@@ -10,8 +10,7 @@ use lib.Ieee.{Float, lt}
 use borrow.Author.Tests.{ltb-true}
 use Rattle.vector.specs.declared.Vector.{Vector}
 use Rattle.vector.specs.Lengths.{zero64, segmentDistanceOf}
-use Rattle.path_simplify.specs.declared.Far.{Far}
-use Rattle.path_simplify.specs.Simplify.{fartherOf, farFrom, farthest, splitsAt, Thin, nothing, first, parts, thin}
+use Rattle.path_simplify.specs.Simplify.{Far, fartherOf, farFrom, farthest, splitsAt, Thin, nothing, first, parts, thin}
 
 -- ---- the scan
 

@@ -37,8 +37,8 @@ thresholdGood t = le zero64 t
 unfoldable pub roomFor : ℕ → ℕ → ℕ → ℕ → Bool
 roomFor numbers starts room startRoom = leb numbers room && leb starts startRoom
 
-unfoldable pub simplifyVerdict : List Float → List ℕ → Float → ℕ → ℕ → Verdict
-simplifyVerdict ps ss t room startRoom =
+unfoldable pub verdictOf : List Float → List ℕ → Float → ℕ → ℕ → Verdict
+verdictOf ps ss t room startRoom =
     unless (shapedOf ps ss) Shape
     (unless (countedOf (length ps / 3) (length ss)) Count
     (unless (shortOf (length ps / 3) ss) Count
@@ -49,4 +49,4 @@ simplifyVerdict ps ss t room startRoom =
 
 unfoldable pub simplifyLeft : List Float → List ℕ → Float → List Float → List ℕ → Outcome Lent
 simplifyLeft ps ss t op os =
-    outcome (simplifyVerdict ps ss t (length op) (length os)) (lent op os) (laid (distances (simplifiedOf t ps ss) ∷ []) (simplified (simplifiedOf t ps ss)) op os)
+    outcome (verdictOf ps ss t (length op) (length os)) (lent op os) (laid (distances (simplifiedOf t ps ss) ∷ []) (simplified (simplifiedOf t ps ss)) op os)

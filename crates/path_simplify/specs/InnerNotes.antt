@@ -22,12 +22,12 @@ measured k d = set k 0 (getD k 0 0 + d)
 unfoldable pub noted : List ℕ → ℕ → List ℕ
 noted k i = set (set k (getD k 1 0 + 2) i) 1 (getD k 1 0 + 1)
 
-abbrev pub count : List ℕ → ℕ
-count k = getD k 1 0
+abbrev pub countNoted : List ℕ → ℕ
+countNoted k = getD k 1 0
 
 -- what the notes say, by the point at each place
 unfoldable pub thinAt : (ℕ → Vector) → List ℕ → Thin
-thinAt at k = record { points = map at (take (count k) (drop 2 k)); measured = getD k 0 0 }
+thinAt at k = record { points = map at (take (countNoted k) (drop 2 k)); measured = getD k 0 0 }
 
 -- one after the other
 unfoldable pub plus : Thin → Thin → Thin

@@ -8,21 +8,20 @@ use Rattle.vector.specs.declared.Vector.{Vector}
 use Rattle.vector.specs.Vectors.{distanceSquaredOf}
 use Rattle.vector.specs.Lengths.{zero64, orNan, fromSegment}
 use Rattle.vector.specs.Root.{rootOf}
-use Rattle.path_simplify.specs.declared.Far.{Far}
 use Rattle.path_simplify.specs.declared.Best.{Best}
 use Rattle.path_simplify.specs.declared.Records.{Records}
 use Prim.Native.Nat.{ℕ, _-_}
 use Rattle.path.specs.declared.Place.{Place}
 use Rattle.path_simplify.specs.declared.Progress.{Progress}
-use Rattle.path_simplify.specs.Simplify.{splitsAt}
+use Rattle.path_simplify.specs.Simplify.{Far, splitsAt}
 
 -- the place that splits the points from lo on, lo itself where none does
 unfoldable pub splitOf : Far → ℕ → Float → ℕ
 splitOf f lo t = cond (splitsAt f lo t) (f .at) lo
 
 -- the places in the course of a call
-abbrev pub placeOf : Progress → Place
-placeOf w = record { points = w .points; starts = w .starts }
+abbrev pub placesIn : Progress → Place
+placesIn w = record { points = w .points; starts = w .starts }
 
 -- the square of the distance of p from the segment from v to w
 unfoldable pub segmentSquareOf : Vector → Vector → Vector → Float

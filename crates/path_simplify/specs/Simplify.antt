@@ -8,7 +8,11 @@ use lib.Ieee.{Float, lt}
 use Rattle.vector.specs.declared.Vector.{Vector}
 use Rattle.vector.specs.Lengths.{zero64, segmentDistanceOf}
 use Rattle.path.specs.Strokes.{pointAt}
-use Rattle.path_simplify.specs.declared.Far.{Far}
+
+-- the farthest point so far: its place, and how far it is
+pub record Far : Type 0 where
+  pub at : ℕ
+  pub far : Float
 
 -- the farther of two, the first where they are level
 unfoldable pub fartherOf : Far → ℕ → Float → Far

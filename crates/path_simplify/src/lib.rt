@@ -22,14 +22,15 @@ ghost use lib.Ieee.{binary64, div, eq, lt};
 ghost use Rattle.refusal.specs.Limits.{mostPoints, mostToSimplify};
 ghost use Rattle.path.specs.Strokes.{pointAt, goodStarts};
 ghost use Rattle.path.specs.Laid.{joined};
-ghost use Rattle.path.specs.InnerPushes.{putPoints, course, advanced, out, push, pushAll};
+ghost use Rattle.path.specs.InnerPushes.{putPoints, out, push, pushAll};
+ghost use Rattle.path.specs.Courses.{course, advanced};
 ghost use Rattle.path.specs.Call.{left};
 ghost use Rattle.path_simplify.specs.Simplify.{fartherOf, farthest, splitsAt, thin, thinned, simplified, distances, simplifiedOf};
-ghost use Rattle.path_simplify.specs.InnerSquares.{splitOf, placeOf};
+ghost use Rattle.path_simplify.specs.InnerSquares.{splitOf, placesIn};
 ghost use Rattle.vector.specs.Lengths.{zero64, one64, segmentDistanceOf};
 ghost use Rattle.path_simplify.specs.InnerSquares.{segmentSquareOf, farOf, settledOf, Rising};
-ghost use Rattle.path_simplify.specs.InnerNotes.{notesLong, cleared, measured, noted, count, thinAt, plus};
-ghost use Rattle.path_simplify.specs.Call.{said, shortOf, roomFor, thresholdGood, simplifyVerdict, simplifyLeft};
+ghost use Rattle.path_simplify.specs.InnerNotes.{notesLong, cleared, measured, noted, countNoted, thinAt, plus};
+ghost use Rattle.path_simplify.specs.Call.{said, shortOf, roomFor, thresholdGood, verdictOf, simplifyLeft};
 
 // What simplify wrote and how many distances it measured, or why it was refused.
 pub enum Simplified {
@@ -43,12 +44,6 @@ pub enum Simplified {
 
 // The notes on a stroke of the most points: two counts, and a place for each point.
 const NOTES: usize = MOST_TO_SIMPLIFY + 2;
-
-// The farthest point so far: its place, and how far it is.
-struct Far {
-    at: usize,
-    far: f64,
-}
 
 // Where the next point goes, and how many distances were measured.
 struct Kept {
@@ -235,7 +230,7 @@ fn measure(kept: &mut [usize; NOTES], d: usize)
 
 // Notes that the point at place i is kept.
 fn note(kept: &mut [usize; NOTES], i: usize)
-    requires { ⌜ count (now kept) < mostToSimplify ⌝ }
+    requires { ⌜ countNoted (now kept) < mostToSimplify ⌝ }
     ensures { λ r. ⌜ now (kept .exit) ≡ noted (now (kept .entry)) i ⌝ }
 {
     let n = kept[1];
@@ -246,10 +241,10 @@ fn note(kept: &mut [usize; NOTES], i: usize)
 // Notes what is kept of the points from lo up to hi, but for the last, by recursion on the falling length. They are split at m.
 fn keep(points: &[f64], lo: usize, m: usize, hi: usize, threshold: f64, kept: &mut [usize; NOTES])
     requires { ⌜ (lo < hi) × (hi < length (now points) / 3) × (m ≡ splitOf (farthest (pointAt (now points)) lo hi) lo threshold)
-        × (count (now kept) + length (thin (hi - lo) threshold (pointAt (now points)) lo hi .points) ≤ mostToSimplify)
+        × (countNoted (now kept) + length (thin (hi - lo) threshold (pointAt (now points)) lo hi .points) ≤ mostToSimplify)
         × (getD (now kept) 0 0 + thin (hi - lo) threshold (pointAt (now points)) lo hi .measured ≤ 4294967296) × (length (now kept) ≡ notesLong) ⌝ }
     ensures { λ r. ⌜ (thinAt (pointAt (now (points .entry))) (now (kept .exit)) ≡ plus (thinAt (pointAt (now (points .entry))) (now (kept .entry))) (thin (hi - lo) threshold (pointAt (now (points .entry))) lo hi))
-        × (count (now (kept .exit)) ≡ count (now (kept .entry)) + length (thin (hi - lo) threshold (pointAt (now (points .entry))) lo hi .points)) × (length (now (kept .exit)) ≡ notesLong) ⌝ }
+        × (countNoted (now (kept .exit)) ≡ countNoted (now (kept .entry)) + length (thin (hi - lo) threshold (pointAt (now (points .entry))) lo hi .points)) × (length (now (kept .exit)) ≡ notesLong) ⌝ }
 {
     measure(kept, hi - lo - 1);
     if m <= lo {
@@ -265,10 +260,10 @@ fn keep(points: &[f64], lo: usize, m: usize, hi: usize, threshold: f64, kept: &m
 // The same, where there may be no points between.
 fn keep_front(points: &[f64], lo: usize, hi: usize, threshold: f64, kept: &mut [usize; NOTES])
     requires { ⌜ (hi < length (now points) / 3)
-        × (count (now kept) + length (thin (hi - lo) threshold (pointAt (now points)) lo hi .points) ≤ mostToSimplify)
+        × (countNoted (now kept) + length (thin (hi - lo) threshold (pointAt (now points)) lo hi .points) ≤ mostToSimplify)
         × (getD (now kept) 0 0 + thin (hi - lo) threshold (pointAt (now points)) lo hi .measured ≤ 4294967296) × (length (now kept) ≡ notesLong) ⌝ }
     ensures { λ r. ⌜ (thinAt (pointAt (now (points .entry))) (now (kept .exit)) ≡ plus (thinAt (pointAt (now (points .entry))) (now (kept .entry))) (thin (hi - lo) threshold (pointAt (now (points .entry))) lo hi))
-        × (count (now (kept .exit)) ≡ count (now (kept .entry)) + length (thin (hi - lo) threshold (pointAt (now (points .entry))) lo hi .points)) × (length (now (kept .exit)) ≡ notesLong) ⌝ }
+        × (countNoted (now (kept .exit)) ≡ countNoted (now (kept .entry)) + length (thin (hi - lo) threshold (pointAt (now (points .entry))) lo hi .points)) × (length (now (kept .exit)) ≡ notesLong) ⌝ }
 {
     if hi <= lo {
         return;
@@ -281,7 +276,7 @@ fn keep_front(points: &[f64], lo: usize, hi: usize, threshold: f64, kept: &mut [
 fn keep_stroke(points: &[f64], a: usize, e: usize, threshold: f64, kept: &mut [usize; NOTES])
     requires { ⌜ (a < e) × (e - a ≤ mostToSimplify) × (e ≤ length (now points) / 3) × (length (now kept) ≡ notesLong) ⌝ }
     ensures { λ r. ⌜ (thinAt (pointAt (now (points .entry))) (now (kept .exit)) ≡ thinned threshold (pointAt (now (points .entry))) a e)
-        × (count (now (kept .exit)) ≡ length (thinned threshold (pointAt (now (points .entry))) a e .points)) × (length (now (kept .exit)) ≡ notesLong) ⌝ }
+        × (countNoted (now (kept .exit)) ≡ length (thinned threshold (pointAt (now (points .entry))) a e .points)) × (length (now (kept .exit)) ≡ notesLong) ⌝ }
 {
     clear(kept);
     keep_front(points, a, e - 1, threshold, kept);
@@ -290,7 +285,7 @@ fn keep_stroke(points: &[f64], a: usize, e: usize, threshold: f64, kept: &mut [u
 
 // Writes the points at the places noted.
 fn lay(points: &[f64], kept: &[usize; NOTES], out: &mut [f64], at: usize)
-    requires { ⌜ (length (now kept) ≡ notesLong) × (count (now kept) ≤ mostToSimplify) × (at + count (now kept) ≤ mostPoints) ⌝ }
+    requires { ⌜ (length (now kept) ≡ notesLong) × (countNoted (now kept) ≤ mostToSimplify) × (at + countNoted (now kept) ≤ mostPoints) ⌝ }
     ensures { λ r. ⌜ now (out .exit) ≡ putPoints (now (out .entry)) at (thinAt (pointAt (now (points .entry))) (now (kept .entry)) .points) ⌝ }
 {
     let n = kept[1];
@@ -337,8 +332,8 @@ fn write_stroke(
 ) -> Progress
     requires { ⌜ (e - a ≤ mostToSimplify) × (length (now kept) ≡ notesLong) × (w .points + length (thinned threshold (pointAt (now points)) a e .points) ≤ mostPoints) × (w .starts ≤ mostPoints)
         × (w .distances + thinned threshold (pointAt (now points)) a e .measured ≤ 4294967296) × (e ≤ length (now points) / 3) ⌝ }
-    ensures { λ r. ⌜ (out (now («out_points» .exit)) (now («out_starts» .exit)) (placeOf r)
-        ≡ push putPoints (out (now («out_points» .entry)) (now («out_starts» .entry)) (placeOf w)) (thinned threshold (pointAt (now (points .entry))) a e .points))
+    ensures { λ r. ⌜ (out (now («out_points» .exit)) (now («out_starts» .exit)) (placesIn r)
+        ≡ push putPoints (out (now («out_points» .entry)) (now («out_starts» .entry)) (placesIn w)) (thinned threshold (pointAt (now (points .entry))) a e .points))
         × (r .distances ≡ w .distances + thinned threshold (pointAt (now (points .entry))) a e .measured) × (length (now (kept .exit)) ≡ notesLong) ⌝ }
 {
     if e <= a {
@@ -366,7 +361,7 @@ fn write_strokes(
     requires { ⌜ (length (joined (simplified (simplifiedOf threshold (now points) (now starts)))) ≤ mostPoints) × (length (now starts) ≤ mostPoints)
         × (distances (simplifiedOf threshold (now points) (now starts)) ≤ 4294967296) × (goodStarts (length (now points) / 3) (now starts) ≡ true)
         × (shortOf (length (now points) / 3) (now starts) ≡ true) ⌝ }
-    ensures { λ r. ⌜ (out (now («out_points» .exit)) (now («out_starts» .exit)) (placeOf r)
+    ensures { λ r. ⌜ (out (now («out_points» .exit)) (now («out_starts» .exit)) (placesIn r)
         ≡ pushAll putPoints (out (now («out_points» .entry)) (now («out_starts» .entry)) (record { points = 0; starts = 0 })) (simplified (simplifiedOf threshold (now (points .entry)) (now (starts .entry)))))
         × (r .distances ≡ distances (simplifiedOf threshold (now (points .entry)) (now (starts .entry)))) ⌝ }
 {
@@ -446,7 +441,7 @@ fn simplify_verdict(
     room: usize,
     start_room: usize,
 ) -> Verdict
-    ensures { λ r. ⌜ r ≡ simplifyVerdict (now (points .entry)) (now (starts .entry)) threshold room «start_room» ⌝ }
+    ensures { λ r. ⌜ r ≡ verdictOf (now (points .entry)) (now (starts .entry)) threshold room «start_room» ⌝ }
 {
     if !shaped(points, starts) {
         return Verdict::Refused(Refusal::Shape);

@@ -15,7 +15,7 @@ use Rattle.path.specs.Tests.{countedOf}
 use Rattle.path.proofs.Tests.{passed, both}
 use Rattle.path.proofs.Pushes.{length-starts, over-sets}
 use Rattle.path.proofs.Again.{strokes-count, table-all}
-use Rattle.path_splice.specs.InnerText.{part, mark, textOf, marksOf, ReadOut, Filled, LaidOut}
+use Rattle.path_splice.specs.InnerText.{entryText, startMark, orderText, marksOf, ReadOut, Filled, LaidOut}
 use Rattle.path_splice.specs.Call.{verdictOf, left, laid}
 use Rattle.order.specs.Regions.{region, put}
 use mathlib.Core.Logic.{⊎-elim}
@@ -54,50 +54,50 @@ granted ps ss w r s h =
     (a .0, f .0, f .1, leb-true _ _ (d .0), leb-true _ _ (g .0), leb-true _ _ (g .1))
 
 -- what an order of marked chains reads
-part-even : (ss : List (List ℕ)) (e : ℕ) → part ss (e + e + 0) ≡ drop 1 (readFrom ss e)
-unfolding part
+part-even : (ss : List (List ℕ)) (e : ℕ) → entryText ss (e + e + 0) ≡ drop 1 (readFrom ss e)
+unfolding entryText
 part-even ss e =
     let p : 1 - (e + e + 0) % 2 ≡ 1 = omega arith in
     let q : (e + e + 0) / 2 ≡ e = omega arith in
     rw (p, q)
 
-part-odd : (ss : List (List ℕ)) (e : ℕ) → part ss (e + e + 1) ≡ readFrom ss e
-unfolding part
+part-odd : (ss : List (List ℕ)) (e : ℕ) → entryText ss (e + e + 1) ≡ readFrom ss e
+unfolding entryText
 part-odd ss e =
     let p : 1 - (e + e + 1) % 2 ≡ 0 = omega arith in
     let q : (e + e + 1) / 2 ≡ e = omega arith in
     rw (p, q)
 
-text-joined : (ss : List (List ℕ)) (c xs : List ℕ) → textOf ss (doubledEnds 0 c ++ xs) ≡ added ss c ++ textOf ss xs
-unfolding textOf doubledEnds added
+text-joined : (ss : List (List ℕ)) (c xs : List ℕ) → orderText ss (doubledEnds 0 c ++ xs) ≡ added ss c ++ orderText ss xs
+unfolding orderText doubledEnds added
 text-joined ss [] xs = refl
-text-joined ss (e ∷ c) xs = rw (part-even ss e, text-joined ss c xs) (sym (append-assoc (drop 1 (readFrom ss e)) (added ss c) (textOf ss xs)))
+text-joined ss (e ∷ c) xs = rw (part-even ss e, text-joined ss c xs) (sym (append-assoc (drop 1 (readFrom ss e)) (added ss c) (orderText ss xs)))
 
-chain-text : (ss : List (List ℕ)) (c xs : List ℕ) → textOf ss (doubledEnds 1 c ++ xs) ≡ readChain ss c ++ textOf ss xs
-unfolding textOf doubledEnds readChain
+chain-text : (ss : List (List ℕ)) (c xs : List ℕ) → orderText ss (doubledEnds 1 c ++ xs) ≡ readChain ss c ++ orderText ss xs
+unfolding orderText doubledEnds readChain
 chain-text ss [] xs = refl
-chain-text ss (e ∷ c) xs = rw (part-odd ss e, text-joined ss c xs) (sym (append-assoc (readFrom ss e) (added ss c) (textOf ss xs)))
+chain-text ss (e ∷ c) xs = rw (part-odd ss e, text-joined ss c xs) (sym (append-assoc (readFrom ss e) (added ss c) (orderText ss xs)))
 
-text-all : (ss : List (List ℕ)) (cs : List (List ℕ)) → textOf ss (allDoubled cs) ≡ joined (map (readChain ss) cs)
-unfolding textOf allDoubled joined
+text-all : (ss : List (List ℕ)) (cs : List (List ℕ)) → orderText ss (allDoubled cs) ≡ joined (map (readChain ss) cs)
+unfolding orderText allDoubled joined
 text-all ss [] = refl
 text-all ss (c ∷ cs) = one c (text-all ss cs)
   where
-    one : (c : List ℕ) → textOf ss (allDoubled cs) ≡ joined (map (readChain ss) cs) → textOf ss (doubledEnds 1 c ++ allDoubled cs) ≡ readChain ss c ++ joined (map (readChain ss) cs)
+    one : (c : List ℕ) → orderText ss (allDoubled cs) ≡ joined (map (readChain ss) cs) → orderText ss (doubledEnds 1 c ++ allDoubled cs) ≡ readChain ss c ++ joined (map (readChain ss) cs)
     one c h = chain-text ss c (allDoubled cs) ∙ ap (λ (z : List ℕ). readChain ss c ++ z) h
 
 marks-joined : (ss : List (List ℕ)) (p : ℕ) (c xs : List ℕ) → marksOf ss p (doubledEnds 0 c ++ xs) ≡ marksOf ss (p + length (added ss c)) xs
 unfolding marksOf doubledEnds added
 marks-joined ss p [] xs = let z : p + 0 ≡ p = omega arith in rw z
 marks-joined ss p (e ∷ c) xs =
-    let z : mark p (e + e + 0) ≡ [] = mark-none p (e + e + 0) (omega arith) in
+    let z : startMark p (e + e + 0) ≡ [] = mark-none p (e + e + 0) (omega arith) in
     let y : p + length (drop 1 (readFrom ss e)) + length (added ss c) ≡ p + length (drop 1 (readFrom ss e) ++ added ss c) = omega (arith, length-append (drop 1 (readFrom ss e)) (added ss c)) in
     rw (z, part-even ss e) (marks-joined ss (p + length (drop 1 (readFrom ss e))) c xs ∙ ap (λ (k : ℕ). marksOf ss k xs) y)
 
 marks-chain : (ss : List (List ℕ)) (p e : ℕ) (c xs : List ℕ) → marksOf ss p (doubledEnds 1 (e ∷ c) ++ xs) ≡ p ∷ marksOf ss (p + length (readChain ss (e ∷ c))) xs
 unfolding marksOf doubledEnds readChain
 marks-chain ss p e c xs =
-    let z : mark p (e + e + 1) ≡ p ∷ [] = mark-one p (e + e + 1) (omega arith) in
+    let z : startMark p (e + e + 1) ≡ p ∷ [] = mark-one p (e + e + 1) (omega arith) in
     let y : p + length (readFrom ss e) + length (added ss c) ≡ p + length (readFrom ss e ++ added ss c) = omega (arith, length-append (readFrom ss e) (added ss c)) in
     rw (z, part-odd ss e) (ap (λ (l : List ℕ). p ∷ l) (marks-joined ss (p + length (readFrom ss e)) c xs ∙ ap (λ (k : ℕ). marksOf ss k xs) y))
 
@@ -162,8 +162,8 @@ module _ (ss : List (List ℕ)) (s s′ : List ℕ) (n r : ℕ) (q : length ss �
   unfolding splice
   splice-is = refl
 
-  pub text-is : textOf ss (region s′ (2 * n) r) ≡ joined (splice 0 eqb ss)
-  text-is = ap (textOf ss) order-is ∙ text-all ss C ∙ ap joined splice-is
+  pub text-is : orderText ss (region s′ (2 * n) r) ≡ joined (splice 0 eqb ss)
+  text-is = ap (orderText ss) order-is ∙ text-all ss C ∙ ap joined splice-is
 
   pub marks-is : marksOf ss 0 (region s′ (2 * n) r) ≡ startsFrom 0 (splice 0 eqb ss)
   marks-is = ap (marksOf ss 0) order-is ∙ marks-all ss 0 C (subst (All Full) (sym splice-is) (strokes-full 0 eqb numbers ss)) ∙ ap (startsFrom 0) splice-is
@@ -176,13 +176,13 @@ module _ (ps ss : List ℕ) (g : goodStarts (length ps) ss ≡ true) (s s′ : L
   abbrev Out : List (List ℕ)
   Out = splice 0 eqb All2
 
-  text : textOf All2 (region s′ (2 * length ss) h) ≡ joined Out
-  text = ap (λ (k : ℕ). textOf All2 (region s′ (2 * length ss) k)) e ∙ text-is All2 s s′ (length ss) r (strokes-count (numberAt ps) (length ps) ss) F H
+  text : orderText All2 (region s′ (2 * length ss) h) ≡ joined Out
+  text = ap (λ (k : ℕ). orderText All2 (region s′ (2 * length ss) k)) e ∙ text-is All2 s s′ (length ss) r (strokes-count (numberAt ps) (length ps) ss) F H
 
   marks : marksOf All2 0 (region s′ (2 * length ss) h) ≡ startsFrom 0 Out
   marks = ap (λ (k : ℕ). marksOf All2 0 (region s′ (2 * length ss) k)) e ∙ marks-is All2 s s′ (length ss) r (strokes-count (numberAt ps) (length ps) ss) F H
 
-  pub out-points : length (textOf All2 (region s′ (2 * length ss) h)) ≤ length ps
+  pub out-points : length (orderText All2 (region s′ (2 * length ss) h)) ≤ length ps
   out-points = omega (arith, ap length text, joined-size Out, points-most 0 eqb numbers All2, joined-size All2, table-all (numberAt ps) (length ps) ss g)
 
   pub out-starts : length (marksOf All2 0 (region s′ (2 * length ss) h)) ≤ length ss

@@ -22,8 +22,8 @@ use Rattle.path_splice_rule.specs.Splice.{splice}
 use Rattle.path_splice_links.specs.Walk.{Woven}
 use Rattle.path_splice.proofs.Answers.{out-points, out-starts, laid-out, wrote}
 use Rattle.path_splice.specs.Call.{left}
-use Rattle.path_splice.specs.InnerText.{textOf, marksOf, ReadOut, Filled}
-use Rattle.path_splice.specs.InnerPairs.{pairsOf, Paired, PairsDrawn, fits, pairsLeft}
+use Rattle.path_splice.specs.InnerText.{orderText, marksOf, ReadOut, Filled}
+use Rattle.path_splice.specs.InnerPairs.{pairsOf, Paired, PairsDrawn, pairsFit, pairsLeft}
 use Rattle.refusal.specs.Limits.{mostStrokes, mostPoints}
 
 -- a, a + 2, .. (n of them)
@@ -154,8 +154,8 @@ present-at ss i = List·getD-map present ss i []
 -- what is asked of the reading
 pub record Asks (op os ps ss order : List ℕ) : Type 0 where
   pub good : goodStarts (length ps) ss ≡ true
-  pub points : length (textOf (strokesIn ps ss) order) ≤ length op
-  pub few : length (textOf (strokesIn ps ss) order) ≤ mostPoints
+  pub points : length (orderText (strokesIn ps ss) order) ≤ length op
+  pub few : length (orderText (strokesIn ps ss) order) ≤ mostPoints
   pub starts : length (marksOf (strokesIn ps ss) 0 order) ≤ length os
 
 -- the words filled in, and threaded
@@ -240,8 +240,8 @@ module _ (s₀ s1 : List ℕ) (n : ℕ) (H : 8 * n ≤ length s₀) (z : length 
       let m : length (take (8 * n) s1) ≡ 8 * n = length-take-le (8 * n) s1 (omega arith) in
       rw (f, m, length-replicate {A = ℕ} (8 * n) 0, e)
 
-pub pairs-fit : (n words room starts : ℕ) → fits n words room starts ≡ true → (8 * n ≤ words) × (n ≤ mostStrokes) × (2 * n ≤ room) × (n ≤ starts)
-unfolding fits
+pub pairs-fit : (n words room starts : ℕ) → pairsFit n words room starts ≡ true → (8 * n ≤ words) × (n ≤ mostStrokes) × (2 * n ≤ room) × (n ≤ starts)
+unfolding pairsFit
 pairs-fit n words room starts h =
     let a = both (leb n mostStrokes && leb (8 * n) words && leb (2 * n) room) (leb n starts) h in
     let b = both (leb n mostStrokes && leb (8 * n) words) (leb (2 * n) room) (a .0) in
@@ -249,11 +249,11 @@ pairs-fit n words room starts h =
     (leb-true _ _ (d .1), leb-true _ _ (d .0), leb-true _ _ (b .1), leb-true _ _ (a .1))
 
 module _ (s op os : List ℕ) (n : ℕ) where
-  pub pairs-no : fits n (length s) (length op) (length os) ≡ false → left (accepted (0 ∷ 0 ∷ [])) s op os ≡ pairsLeft s n op os
+  pub pairs-no : pairsFit n (length s) (length op) (length os) ≡ false → left (accepted (0 ∷ 0 ∷ [])) s op os ≡ pairsLeft s n op os
   unfolding pairsLeft
   pairs-no h = rw h
 
-  pub pairs-yes : fits n (length s) (length op) (length os) ≡ true → (s′ s1 op′ os′ : List ℕ) (p q : ℕ) → s′ ≡ over s (replicate (8 * n) 0) → PairsDrawn s s1 n op os op′ os′ p q
+  pub pairs-yes : pairsFit n (length s) (length op) (length os) ≡ true → (s′ s1 op′ os′ : List ℕ) (p q : ℕ) → s′ ≡ over s (replicate (8 * n) 0) → PairsDrawn s s1 n op os op′ os′ p q
       → left (accepted (p ∷ q ∷ [])) s′ op′ os′ ≡ pairsLeft s n op os
   unfolding pairsLeft
   pairs-yes h s′ s1 op′ os′ p q e D = rw h (wrote (splice 0 eqb (pairsOf (take (2 * n) s))) (over s (replicate (8 * n) 0)) s′ op os op′ os′ p q e (D .out))

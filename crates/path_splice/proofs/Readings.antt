@@ -11,7 +11,7 @@ use lib.Seq.{drop-cons, length-take-le, length-front, take-at, ext-getD}
 use mathlib.Core.Logic.{inr}
 use Rattle.order.specs.Regions.{region, put, Off}
 use Rattle.path.specs.Strokes.{strokesIn}
-use Rattle.path_splice.specs.InnerText.{Spans, part, mark, textOf, marksOf, ReadOut, Filled}
+use Rattle.path_splice.specs.InnerText.{Spans, entryText, startMark, orderText, marksOf, ReadOut, Filled}
 use Rattle.path_splice_rule.specs.Splice.{turned, readFrom, valueAt, present}
 use Rattle.path_splice_rule.proofs.Ends.{is-zero, not-zero}
 use Rattle.order.proofs.Parts.{put-append, length-region, put-lent, region-off, region-put}
@@ -35,16 +35,16 @@ module _ (ps ss : List ℕ) (x i a b : ℕ) (on : i ≡ x / 2 / 2) (S : Spans ps
   abbrev All : List (List ℕ)
   All = strokesIn ps ss
 
-  part-is : part All x ≡ drop (1 - x % 2) (turned (x / 2 % 2) (region ps a (b - a)))
-  unfolding part readFrom
+  part-is : entryText All x ≡ drop (1 - x % 2) (turned (x / 2 % 2) (region ps a (b - a)))
+  unfolding entryText readFrom
   part-is = rw (← on, S .is)
 
-  pub part-empty : a ≡ b → part All x ≡ []
+  pub part-empty : a ≡ b → entryText All x ≡ []
   part-empty q =
       let z : b - a ≡ 0 = omega arith in
       part-is ∙ ap (λ (n : ℕ). drop (1 - x % 2) (turned (x / 2 % 2) (region ps a n))) z ∙ nothing (1 - x % 2) (x / 2 % 2)
 
-  pub part-forward : (k : ℕ) → k ≡ 1 - x % 2 → a ≢ b → x / 2 % 2 ≡ 0 → part All x ≡ region ps (a + k) (b - (a + k))
+  pub part-forward : (k : ℕ) → k ≡ 1 - x % 2 → a ≢ b → x / 2 % 2 ≡ 0 → entryText All x ≡ region ps (a + k) (b - (a + k))
   unfolding turned
   part-forward k q n z = part-is ∙ ap (λ (j : ℕ). drop (1 - x % 2) (turned j (region ps a (b - a)))) z ∙ ap (λ (j : ℕ). drop j (region ps a (b - a))) (sym q) ∙ go k (omega arith)
     where
@@ -53,7 +53,7 @@ module _ (ps ss : List ℕ) (x i a b : ℕ) (on : i ≡ x / 2 / 2) (S : Spans ps
       go (suc zero) l = ap (drop 1) (region-first ps a b (omega (arith, S .low)) (S .high))
       go (suc (suc k)) l = absurd (omega arith)
 
-  pub part-backward : (k : ℕ) → k ≡ 1 - x % 2 → a ≢ b → x / 2 % 2 ≢ 0 → part All x ≡ reverse (region ps a (b - k - a))
+  pub part-backward : (k : ℕ) → k ≡ 1 - x % 2 → a ≢ b → x / 2 % 2 ≢ 0 → entryText All x ≡ reverse (region ps a (b - k - a))
   unfolding turned
   part-backward k q n z =
       let u : x / 2 % 2 ≡ 1 = omega arith in
@@ -64,7 +64,7 @@ module _ (ps ss : List ℕ) (x i a b : ℕ) (on : i ≡ x / 2 / 2) (S : Spans ps
       go (suc zero) l = ap (λ (r : List ℕ). drop 1 (reverse r)) (region-last ps a b (omega (arith, S .low)) (S .high)) ∙ ap (drop 1) (reverse-append (region ps a (b - 1 - a)) (getD ps (b - 1) 0 ∷ []))
       go (suc (suc k)) l = absurd (omega arith)
 
-  pub part-size : (k : ℕ) → k ≡ 1 - x % 2 → a ≢ b → length (part All x) ≡ b - a - k
+  pub part-size : (k : ℕ) → k ≡ 1 - x % 2 → a ≢ b → length (entryText All x) ≡ b - a - k
   part-size k q n =
       elim (ℕ-discrete (x / 2 % 2) 0) [
         | yes z ↦ ap length (part-forward k q n z) ∙ length-region ps (a + k) (b - (a + k)) (omega (arith, S .low, S .high)) ∙ sub-both a b k
@@ -72,12 +72,12 @@ module _ (ps ss : List ℕ) (x i a b : ℕ) (on : i ≡ x / 2 / 2) (S : Spans ps
       ]
 
 -- marks
-pub mark-none : (p x : ℕ) → x % 2 ≡ 0 → mark p x ≡ []
-unfolding mark
+pub mark-none : (p x : ℕ) → x % 2 ≡ 0 → startMark p x ≡ []
+unfolding startMark
 mark-none p x e = rw (is-zero (x % 2) e)
 
-pub mark-one : (p x : ℕ) → x % 2 ≢ 0 → mark p x ≡ p ∷ []
-unfolding mark
+pub mark-one : (p x : ℕ) → x % 2 ≢ 0 → startMark p x ≡ p ∷ []
+unfolding startMark
 mark-one p x e = rw (not-zero (x % 2) e)
 
 pub put-none : (s : List ℕ) (a : ℕ) (l : List ℕ) → l ≡ [] → s ≡ put s a l
@@ -90,9 +90,9 @@ put-single s a x l e = rw e
 
 -- the loop over an order
 pub record Reading (ss : List (List ℕ)) (order op os : List ℕ) (op′ os′ : List ℕ) (p q j : ℕ) : Type 0 where
-  pub points : put op 0 (textOf ss order) ≡ put op′ p (textOf ss (drop j order))
+  pub points : put op 0 (orderText ss order) ≡ put op′ p (orderText ss (drop j order))
   pub starts : put os 0 (marksOf ss 0 order) ≡ put os′ q (marksOf ss p (drop j order))
-  pub many : length (textOf ss order) ≡ p + length (textOf ss (drop j order))
+  pub many : length (orderText ss order) ≡ p + length (orderText ss (drop j order))
   pub chains : length (marksOf ss 0 order) ≡ q + length (marksOf ss p (drop j order))
 
 pub reading : (ss : List (List ℕ)) (order op os : List ℕ) → Reading ss order op os op os 0 0 0
@@ -102,42 +102,42 @@ module _ (ss : List (List ℕ)) (order op os op1 os1 : List ℕ) (p q j : ℕ) (
   abbrev x : ℕ
   x = getD order j 0
 
-  text-is : textOf ss (drop j order) ≡ part ss x ++ textOf ss (drop (j + 1) order)
-  unfolding textOf
+  text-is : orderText ss (drop j order) ≡ entryText ss x ++ orderText ss (drop (j + 1) order)
+  unfolding orderText
   text-is = rw (drop-cons order j 0 h, add-one)
 
-  marks-is : marksOf ss p (drop j order) ≡ mark p x ++ marksOf ss (p + length (part ss x)) (drop (j + 1) order)
+  marks-is : marksOf ss p (drop j order) ≡ startMark p x ++ marksOf ss (p + length (entryText ss x)) (drop (j + 1) order)
   unfolding marksOf
   marks-is = rw (drop-cons order j 0 h, add-one)
 
-  text-size : length (textOf ss (drop j order)) ≡ length (part ss x) + length (textOf ss (drop (j + 1) order))
-  text-size = ap length text-is ∙ length-append (part ss x) (textOf ss (drop (j + 1) order))
+  text-size : length (orderText ss (drop j order)) ≡ length (entryText ss x) + length (orderText ss (drop (j + 1) order))
+  text-size = ap length text-is ∙ length-append (entryText ss x) (orderText ss (drop (j + 1) order))
 
-  marks-size : length (marksOf ss p (drop j order)) ≡ length (mark p x) + length (marksOf ss (p + length (part ss x)) (drop (j + 1) order))
-  marks-size = ap length marks-is ∙ length-append (mark p x) (marksOf ss (p + length (part ss x)) (drop (j + 1) order))
+  marks-size : length (marksOf ss p (drop j order)) ≡ length (startMark p x) + length (marksOf ss (p + length (entryText ss x)) (drop (j + 1) order))
+  marks-size = ap length marks-is ∙ length-append (startMark p x) (marksOf ss (p + length (entryText ss x)) (drop (j + 1) order))
 
-  pub point-room : p + length (part ss x) ≤ length (textOf ss order)
+  pub point-room : p + length (entryText ss x) ≤ length (orderText ss order)
   point-room = omega (arith, text-size, R .many)
 
-  pub mark-room : q + length (mark p x) ≤ length (marksOf ss 0 order)
+  pub mark-room : q + length (startMark p x) ≤ length (marksOf ss 0 order)
   mark-room = omega (arith, marks-size, R .chains)
 
-  pub reading-more : (op2 os2 : List ℕ) (p2 q2 : ℕ) → op2 ≡ put op1 p (part ss x) → p2 ≡ p + length (part ss x) → os2 ≡ put os1 q (mark p x) → q2 ≡ q + length (mark p x)
+  pub reading-more : (op2 os2 : List ℕ) (p2 q2 : ℕ) → op2 ≡ put op1 p (entryText ss x) → p2 ≡ p + length (entryText ss x) → os2 ≡ put os1 q (startMark p x) → q2 ≡ q + length (startMark p x)
       → Reading ss order op os op2 os2 p2 q2 (j + 1)
   reading-more op2 os2 p2 q2 a b d e =
-      let M = marksOf ss (p + length (part ss x)) (drop (j + 1) order) in
+      let M = marksOf ss (p + length (entryText ss x)) (drop (j + 1) order) in
       record {
-        points = R .points ∙ ap (put op1 p) text-is ∙ sym (put-append op1 p (part ss x) (textOf ss (drop (j + 1) order))) ∙ ap (λ (z : List ℕ). put z (p + length (part ss x)) (textOf ss (drop (j + 1) order))) (sym a) ∙ ap (λ (z : ℕ). put op2 z (textOf ss (drop (j + 1) order))) (sym b);
-        starts = R .starts ∙ ap (put os1 q) marks-is ∙ sym (put-append os1 q (mark p x) M) ∙ ap (λ (z : List ℕ). put z (q + length (mark p x)) M) (sym d) ∙ ap (λ (z : ℕ). put os2 z M) (sym e) ∙ ap (λ (z : ℕ). put os2 q2 (marksOf ss z (drop (j + 1) order))) (sym b);
+        points = R .points ∙ ap (put op1 p) text-is ∙ sym (put-append op1 p (entryText ss x) (orderText ss (drop (j + 1) order))) ∙ ap (λ (z : List ℕ). put z (p + length (entryText ss x)) (orderText ss (drop (j + 1) order))) (sym a) ∙ ap (λ (z : ℕ). put op2 z (orderText ss (drop (j + 1) order))) (sym b);
+        starts = R .starts ∙ ap (put os1 q) marks-is ∙ sym (put-append os1 q (startMark p x) M) ∙ ap (λ (z : List ℕ). put z (q + length (startMark p x)) M) (sym d) ∙ ap (λ (z : ℕ). put os2 z M) (sym e) ∙ ap (λ (z : ℕ). put os2 q2 (marksOf ss z (drop (j + 1) order))) (sym b);
         many = omega (arith, R .many, text-size);
         chains = R .chains ∙ omega (arith, marks-size) ∙ ap (λ (z : ℕ). q2 + length (marksOf ss z (drop (j + 1) order))) (sym b);
       }
 
 pub read-all : (ss : List (List ℕ)) (order op os op1 os1 : List ℕ) (p q j : ℕ) → Reading ss order op os op1 os1 p q j → length order ≤ j → ReadOut ss order op os op1 os1 p q
-unfolding textOf marksOf put
+unfolding orderText marksOf put
 read-all ss order op os op1 os1 p q j R h =
     let e : drop j order ≡ [] = drop-of-length-le order h in
-    let t : textOf ss (drop j order) ≡ [] = rw e in
+    let t : orderText ss (drop j order) ≡ [] = rw e in
     let m : marksOf ss p (drop j order) ≡ [] = rw e in
     record {
       points = sym (R .points ∙ ap (put op1 p) t);

@@ -20,13 +20,13 @@ pairsOf (x ∷ []) = []
 pairsOf (x ∷ y ∷ s) = (x ∷ y ∷ []) ∷ pairsOf s
 
 -- n strokes are within the limit, 8 words a stroke in scratch, 2 points and a start a stroke in the output
-unfoldable pub fits : ℕ → ℕ → ℕ → ℕ → Bool
-fits n words room starts = leb n mostStrokes && leb (8 * n) words && leb (2 * n) room && leb n starts
+unfoldable pub pairsFit : ℕ → ℕ → ℕ → ℕ → Bool
+pairsFit n words room starts = leb n mostStrokes && leb (8 * n) words && leb (2 * n) room && leb n starts
 
 -- the strokes of the first 2 n words spliced and written, and the first 8 n words zero; nothing is changed where it does not fit
 unfoldable pub pairsLeft : List ℕ → ℕ → List ℕ → List ℕ → Outcome Lent
 pairsLeft s n op os =
-    cond (fits n (length s) (length op) (length os)) (laid (splice 0 eqb (pairsOf (take (2 * n) s))) (over s (replicate (8 * n) 0)) op os) (left (accepted (0 ∷ 0 ∷ [])) s op os)
+    cond (pairsFit n (length s) (length op) (length os)) (laid (splice 0 eqb (pairsOf (take (2 * n) s))) (over s (replicate (8 * n) 0)) op os) (left (accepted (0 ∷ 0 ∷ [])) s op os)
 
 -- each of n strokes of two points is there, and stroke i begins at point 2 i
 pub record Paired (n : ℕ) (todo starts : List ℕ) : Type 0 where

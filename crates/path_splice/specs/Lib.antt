@@ -1,3 +1,4 @@
 pub mod InnerText
 pub mod Call
+pub mod Cases
 pub mod InnerPairs

@@ -4,6 +4,8 @@ use path::Place;
 use path::counted;
 use path::end_of;
 use path::rising;
+use path_splice_links::TODO;
+use path_splice_links::WORDS;
 use path_splice_links::thread;
 use path_splice_rule::Endpoint;
 use refusal::MOST_STROKES;
@@ -19,8 +21,9 @@ ghost use Rattle.refusal.specs.Said.{accepted};
 ghost use Rattle.order.specs.Regions.{region, put, Into2};
 ghost use Rattle.path.specs.Strokes.{goodStarts, strokesIn};
 ghost use Rattle.path_splice_rule.specs.Splice.{valueAt, present, splice as spliceOf};
-ghost use Rattle.path_splice.specs.InnerText.{Spans, part, mark, textOf, marksOf, ReadOut, Filled, LaidOut};
-ghost use Rattle.path_splice.specs.InnerPairs.{Paired, PairsDrawn, fits as fitsOf, pairsLeft};
+ghost use Rattle.path_splice_links.specs.Layout.{todoAt, wordsFor};
+ghost use Rattle.path_splice.specs.InnerText.{Spans, entryText, startMark, orderText, marksOf, ReadOut, Filled, LaidOut};
+ghost use Rattle.path_splice.specs.InnerPairs.{Paired, PairsDrawn, pairsFit as fitsOf, pairsLeft};
 ghost use Rattle.path_splice.specs.Call.{verdictOf, said, left, spliceLeft};
 ghost use Rattle.refusal.specs.Limits.{mostStrokes, mostPoints};
 
@@ -112,8 +115,8 @@ fn fill(points: &[u32], starts: &[u32], s: &mut [u32])
 {
     let n = starts.len();
     let m = 2 * n;
-    let t = 6 * n;
-    let h = 7 * n;
+    let t = TODO * n;
+    let h = WORDS * n;
     fill_values(points, starts, &mut s[..m]);
     fill_todo(points, starts, &mut s[t..h]);
 }
@@ -149,9 +152,9 @@ fn write_backward(points: &[u32], a: usize, e: usize, out: &mut [u32], at: usize
 
 // Writes what entry x of an order reads, and answers the place after it: a joined stroke loses its first read point.
 fn read_entry(points: &[u32], starts: &[u32], x: u32, out: &mut [u32], at: usize) -> usize
-    requires { ⌜ (goodStarts (length (now points)) (now starts) ≡ true) × (at + length (part (strokesIn (now points) (now starts)) x) ≤ length (now out)) ⌝ }
-    ensures { λ r. ⌜ (now (out .exit) ≡ put (now (out .entry)) at (part (strokesIn (now (points .entry)) (now (starts .entry))) x))
-        × (r ≡ at + length (part (strokesIn (now (points .entry)) (now (starts .entry))) x)) ⌝ }
+    requires { ⌜ (goodStarts (length (now points)) (now starts) ≡ true) × (at + length (entryText (strokesIn (now points) (now starts)) x) ≤ length (now out)) ⌝ }
+    ensures { λ r. ⌜ (now (out .exit) ≡ put (now (out .entry)) at (entryText (strokesIn (now (points .entry)) (now (starts .entry))) x))
+        × (r ≡ at + length (entryText (strokesIn (now (points .entry)) (now (starts .entry))) x)) ⌝ }
 {
     let e = Endpoint(x as usize / 2);
     let s = span_of(points, starts, e.path_id());
@@ -172,8 +175,8 @@ fn read_entry(points: &[u32], starts: &[u32], x: u32, out: &mut [u32], at: usize
 
 // Writes the start of a chain where entry x begins one, and answers the place after it.
 fn put_mark(out: &mut [u32], q: usize, p: usize, x: u32) -> usize
-    requires { ⌜ (q + length (mark p x) ≤ length (now out)) × (p ≤ mostPoints) ⌝ }
-    ensures { λ r. ⌜ (now (out .exit) ≡ put (now (out .entry)) q (mark p x)) × (r ≡ q + length (mark p x)) ⌝ }
+    requires { ⌜ (q + length (startMark p x) ≤ length (now out)) × (p ≤ mostPoints) ⌝ }
+    ensures { λ r. ⌜ (now (out .exit) ≡ put (now (out .entry)) q (startMark p x)) × (r ≡ q + length (startMark p x)) ⌝ }
 {
     if x % 2 == 0 {
         return q;
@@ -191,8 +194,8 @@ fn read_out(
     out_starts: &mut [u32],
 ) -> Place
     requires { ⌜ goodStarts (length (now points)) (now starts) ≡ true ⌝ }
-    requires { ⌜ (length (textOf (strokesIn (now points) (now starts)) (now order)) ≤ length (now «out_points»))
-        × (length (textOf (strokesIn (now points) (now starts)) (now order)) ≤ mostPoints)
+    requires { ⌜ (length (orderText (strokesIn (now points) (now starts)) (now order)) ≤ length (now «out_points»))
+        × (length (orderText (strokesIn (now points) (now starts)) (now order)) ≤ mostPoints)
         × (length (marksOf (strokesIn (now points) (now starts)) 0 (now order)) ≤ length (now «out_starts»)) ⌝ }
     ensures { λ r. ⌜ ReadOut (strokesIn (now (points .entry)) (now (starts .entry))) (now (order .entry)) (now («out_points» .entry)) (now («out_starts» .entry))
         (now («out_points» .exit)) (now («out_starts» .exit)) (r .points) (r .starts) ⌝ }
@@ -296,12 +299,12 @@ pub fn splice(
 // Writes that each of n strokes of two points is there, and where it begins.
 fn fill_pairs(s: &mut [u32], n: usize)
     requires { ⌜ (8 * n ≤ length (now s)) × (n ≤ mostStrokes) ⌝ }
-    ensures { λ _. ⌜ Into2 (now (s .entry)) (now (s .exit)) (6 * n) n (7 * n) n (Paired n) ⌝ }
+    ensures { λ _. ⌜ Into2 (now (s .entry)) (now (s .exit)) (todoAt n) n (wordsFor n) n (Paired n) ⌝ }
 {
     let mut i: usize = 0;
     while i < n {
-        s[6 * n + i] = 1;
-        s[7 * n + i] = (2 * i) as u32;
+        s[TODO * n + i] = 1;
+        s[WORDS * n + i] = (2 * i) as u32;
         i += 1;
     }
 }
@@ -316,7 +319,7 @@ fn draw_pairs(s: &mut [u32], n: usize, out_points: &mut [u32], out_starts: &mut 
     let c = thread(s, n);
     let m = 2 * n;
     let e = m + c;
-    let t = 7 * n;
+    let t = WORDS * n;
     let h = 8 * n;
     let w = &s[..];
     read_out(&w[..m], &w[t..h], &w[m..e], out_points, out_starts)

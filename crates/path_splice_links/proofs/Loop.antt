@@ -7,7 +7,7 @@ use native.Mathlib.Omega.{arith}
 use native.Mathlib.Numerals.{add-one}
 use lib.ListN.{length, getD, set, take, length-set}
 use lib.Seq.{take-suc-set, append-snoc}
-use Rattle.path_splice_rule.specs.Splice.{opposite, onward, run, Drawn}
+use Rattle.path_splice_rule.specs.Splice.{opposite, onward, run, Chained}
 use Rattle.path_splice_rule.specs.Totals.{total}
 use Rattle.path_splice_links.specs.Walk.{linkIn, Within, doubledEnds, RunIs}
 use Rattle.path_splice_rule.proofs.Totals.{take-off, total-length}
@@ -52,8 +52,8 @@ module _ (ls t₀ o₀ : List ℕ) (at start : ℕ) (t o : List ℕ) (e k f : �
   finish h =
       let s = run-stop (linkIn ls) (W .fuel) t e h in
       record {
-        left = sym (W .left ∙ ap (λ (r : Drawn). r .left) s);
-        front = head ∙ ap (λ (r : List ℕ). take k o ++ r) (sym (ink-one f e)) ∙ sym (W .chain ∙ ap (λ (r : Drawn). take k o ++ doubledEnds f (r .chain)) s);
+        left = sym (W .left ∙ ap (λ (r : Chained). r .left) s);
+        front = head ∙ ap (λ (r : List ℕ). take k o ++ r) (sym (ink-one f e)) ∙ sym (W .chain ∙ ap (λ (r : Chained). take k o ++ doubledEnds f (r .chain)) s);
         room = room-more;
       }
 
@@ -72,8 +72,8 @@ module _ (ls t₀ o₀ : List ℕ) (at start : ℕ) (t o : List ℕ) (e k f : �
         flag = omega arith;
         fuel = W .fuel - 1;
         enough = omega (arith, F .1, F .0);
-        left = W .left ∙ ap (λ (r : Drawn). r .left) s;
+        left = W .left ∙ ap (λ (r : Chained). r .left) s;
         chain =
-            W .chain ∙ ap (λ (r : Drawn). take k o ++ doubledEnds f (r .chain)) s ∙ ap (λ (r : List ℕ). take k o ++ r) (ink-more f e (run (linkIn ls) (W .fuel - 1) (set t (e / 2) 0) g .chain))
+            W .chain ∙ ap (λ (r : Chained). take k o ++ doubledEnds f (r .chain)) s ∙ ap (λ (r : List ℕ). take k o ++ r) (ink-more f e (run (linkIn ls) (W .fuel - 1) (set t (e / 2) 0) g .chain))
             ∙ sym (append-snoc (take k o) (e + e + f) rest) ∙ ap (λ (r : List ℕ). r ++ rest) (sym head);
       }

@@ -9,7 +9,7 @@ use lib.ListN.{length, getD, set, take, drop, replicate, length-replicate}
 use lib.Seq.{take-take, take-at}
 use Rattle.order.specs.Regions.{region, put, Off, Into}
 use Rattle.path_splice_links.specs.Layout.{LinksIn}
-use Rattle.order.specs.Sort.{cut, sorted}
+use Rattle.order.specs.Sort.{regionsApart, sorted}
 use Rattle.order.proofs.Sorting.{inside-for, apart-before, apart-after, cut-for, sorted-yes}
 use Rattle.order.specs.Order.{order, wordKey}
 use Rattle.path_splice_links.specs.Ends.{liveFrom, Lived}
@@ -166,7 +166,7 @@ module _ (s₀ : List ℕ) (n : ℕ) (H : 7 * n ≤ length s₀) (few : n ≤ mo
   z1 : length s1 ≡ length s₀
   z1 = into-size s₀ s1 (2 * n) (2 * n) _ J
 
-  cut-is : cut (length s1) 0 (2 * n) (2 * n) (4 * n) c ≡ true
+  cut-is : regionsApart (length s1) 0 (2 * n) (2 * n) (4 * n) c ≡ true
   cut-is =
       let d = count-le in
       let e : 2 * n - 0 ≡ 2 * n = omega arith in

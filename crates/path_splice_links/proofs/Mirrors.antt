@@ -7,7 +7,7 @@ use Prim.Native.Nat.{ℕ, suc, _+_, _-_, _/_, _<_, _≤_}
 use native.Mathlib.Omega.{arith}
 use native.Mathlib.Decide.{ℕ-discrete}
 use lib.ListN.{length, getD}
-use Rattle.path_splice_links.specs.Runs.{valueOf, Pair, Mirror}
+use Rattle.path_splice_links.specs.Runs.{endValue, Pair, Mirror}
 use Rattle.order.proofs.Tests.{le-or}
 use Rattle.path_splice_links.proofs.Matching.{Right}
 
@@ -20,7 +20,7 @@ pub record Joins (join : ℕ → ℕ → Bool) (vs : List ℕ) (Live : ℕ → T
 pub record Laid (vs : List ℕ) (m : ℕ) (Live : ℕ → Type 0) (s : List ℕ) : Type 0 where
   pub each : (x : ℕ) → x < length s → (getD s x 0 < m) × Live (getD s x 0)
   pub find : (e : ℕ) → e < m → Live e → (x : ℕ) × (x < length s) × (getD s x 0 ≡ e)
-  pub rise : (x y : ℕ) → x < y → y < length s → valueOf vs s x ≡ valueOf vs s y → getD s x 0 < getD s y 0
+  pub rise : (x y : ℕ) → x < y → y < length s → endValue vs s x ≡ endValue vs s y → getD s x 0 < getD s y 0
 
 module _ (join : ℕ → ℕ → Bool) (vs : List ℕ) (m : ℕ) (Live : ℕ → Type 0) (J : Joins join vs Live) (s : List ℕ) (L : Laid vs m Live s) (ls : List ℕ)
     (size : length ls ≡ m) (alive : (f g : ℕ) → f < m → getD ls f 0 ≡ suc g → Live f)
@@ -28,14 +28,14 @@ module _ (join : ℕ → ℕ → Bool) (vs : List ℕ) (m : ℕ) (Live : ℕ →
   abbrev S : ℕ → ℕ
   S x = getD s x 0
 
-  module _ (x z : ℕ) (hx : x < length s) (hz : z < length s) (e : valueOf vs s z ≡ valueOf vs s x) where
+  module _ (x z : ℕ) (hx : x < length s) (hz : z < length s) (e : endValue vs s z ≡ endValue vs s x) where
     bound : (w : ℕ) → A z hz .a ≤ w → w < A z hz .b → (A x hx .a ≤ w) × (w < A x hx .b)
     bound w p q =
         let M = A x hx in
         let N = A z hz in
         M .run .only w (omega (arith, N .run .inside)) (N .run .same w p q ∙ sym (N .run .same z (N .low) (N .high)) ∙ e ∙ M .run .same x (M .low) (M .high))
 
-  one-run : (x z : ℕ) (hx : x < length s) (hz : z < length s) → valueOf vs s z ≡ valueOf vs s x → (A x hx .a ≡ A z hz .a) × (A x hx .b ≡ A z hz .b)
+  one-run : (x z : ℕ) (hx : x < length s) (hz : z < length s) → endValue vs s z ≡ endValue vs s x → (A x hx .a ≡ A z hz .a) × (A x hx .b ≡ A z hz .b)
   one-run x z hx hz e =
       let M = A x hx in
       let N = A z hz in
@@ -57,7 +57,7 @@ module _ (join : ℕ → ℕ → Bool) (vs : List ℕ) (m : ℕ) (Live : ℕ →
     mir-lt : mir x hx < length s
     mir-lt = omega (arith, mir-in, A x hx .run .inside)
 
-    mir-same : valueOf vs s (mir x hx) ≡ valueOf vs s x
+    mir-same : endValue vs s (mir x hx) ≡ endValue vs s x
     mir-same = let M = A x hx in M .run .same (mir x hx) (mir-in .0) (mir-in .1) ∙ sym (M .run .same x (M .low) (M .high))
 
     linked-as : Pair (S x) (S (mir x hx)) (getD ls (S x) 0)
@@ -65,7 +65,7 @@ module _ (join : ℕ → ℕ → Bool) (vs : List ℕ) (m : ℕ) (Live : ℕ →
     linked-as = A x hx .pair
 
   -- mirrors lie the other way round
-  mir-sum : (x z : ℕ) (hx : x < length s) (hz : z < length s) → valueOf vs s z ≡ valueOf vs s x → mir z hz + z ≡ mir x hx + x
+  mir-sum : (x z : ℕ) (hx : x < length s) (hz : z < length s) → endValue vs s z ≡ endValue vs s x → mir z hz + z ≡ mir x hx + x
   unfolding mir
   mir-sum x z hx hz e =
       let o = one-run x z hx hz e in
@@ -73,11 +73,11 @@ module _ (join : ℕ → ℕ → Bool) (vs : List ℕ) (m : ℕ) (Live : ℕ →
       let N = A z hz in
       omega (arith, o, M .low, M .high, N .low, N .high)
 
-  up : (x y : ℕ) → y < length s → valueOf vs s x ≡ valueOf vs s y → x < y → S x < S y
+  up : (x y : ℕ) → y < length s → endValue vs s x ≡ endValue vs s y → x < y → S x < S y
   up x y h e l = L .rise x y l h e
 
   -- places go as the ends do
-  place : (x y : ℕ) → x < length s → y < length s → valueOf vs s x ≡ valueOf vs s y → S x < S y → x < y
+  place : (x y : ℕ) → x < length s → y < length s → endValue vs s x ≡ endValue vs s y → S x < S y → x < y
   place x y hx hy e l =
       ⊎-elim (λ h. elim (ℕ-discrete y x) [ yes q ↦ absurd (let z : S y ≡ S x = ap S q in omega arith) | no n ↦ absurd (omega (arith, up y x hx (sym e) (omega arith))) ]) (λ h. h) (le-or y x)
 
@@ -103,13 +103,13 @@ module _ (join : ℕ → ℕ → Bool) (vs : List ℕ) (m : ℕ) (Live : ℕ →
     to-is : S (mir at at-lt) ≡ g
     to-is = omega (arith, at-link, linked-as at at-lt .other apart)
 
-    value-is : getD vs f 0 ≡ valueOf vs s at
+    value-is : getD vs f 0 ≡ endValue vs s at
     value-is = ap (λ (z : ℕ). getD vs z 0) (sym at-is)
 
   links-of : (x : ℕ) (hx : x < length s) → S x / 2 ≢ S (mir x hx) / 2 → getD ls (S x) 0 ≡ suc (S (mir x hx))
   links-of x hx n = linked-as x hx .other n
 
-  valued : (x e : ℕ) → S x ≡ e → valueOf vs s x ≡ getD vs e 0
+  valued : (x e : ℕ) → S x ≡ e → endValue vs s x ≡ getD vs e 0
   valued x e q = ap (λ (z : ℕ). getD vs z 0) q
 
   back : (f g : ℕ) → f < m → getD ls f 0 ≡ suc g → (g < m) × (getD ls g 0 ≡ suc f)
@@ -145,7 +145,7 @@ module _ (join : ℕ → ℕ → Bool) (vs : List ℕ) (m : ℕ) (Live : ℕ →
       let z = F .0 in
       let hz = F .1 in
       let r : S z ≡ k = F .2 in
-      let e : valueOf vs s z ≡ valueOf vs s x = valued z k r ∙ sym (J .of f k t .0) ∙ sym (valued x f p) in
+      let e : endValue vs s z ≡ endValue vs s x = valued z k r ∙ sym (J .of f k t .0) ∙ sym (valued x f p) in
       let ms = mir-same x hx in
       let mz = mir-same z hz in
       let xy : x < mir x hx = place x (mir x hx) hx (mir-lt x hx) (sym ms) (omega arith) in
@@ -162,14 +162,14 @@ module _ (join : ℕ → ℕ → Bool) (vs : List ℕ) (m : ℕ) (Live : ℕ →
       let F = L .find k hk (O .3) in
       go (X .0) (X .1) (X .2) (F .0) (F .1) (F .2) (valued (F .0) k (F .2) ∙ sym (O .0) ∙ sym (valued (X .0) f (X .2))) (O .1)
     where
-      go : (x : ℕ) (hx : x < length s) → S x ≡ f → (z : ℕ) (hz : z < length s) → S z ≡ k → valueOf vs s z ≡ valueOf vs s x → f / 2 ≢ k / 2
+      go : (x : ℕ) (hx : x < length s) → S x ≡ f → (z : ℕ) (hz : z < length s) → S z ≡ k → endValue vs s z ≡ endValue vs s x → f / 2 ≢ k / 2
           → (j : ℕ) × (getD ls k 0 ≡ suc j) × ((j < f) ⊎ (k < f))
       go x hx p z hz r e n = elim (ℕ-discrete (S x / 2) (S (mir x hx) / 2)) [ yes q ↦ close q (le-or x z) | no d ↦ absurd (omega (arith, links-of x hx d, subst (λ (v : ℕ). getD ls v 0 ≡ 0) (sym p) y)) ]
         where
-          ms : valueOf vs s (mir x hx) ≡ valueOf vs s x
+          ms : endValue vs s (mir x hx) ≡ endValue vs s x
           ms = mir-same x hx
 
-          mz : valueOf vs s (mir z hz) ≡ valueOf vs s z
+          mz : endValue vs s (mir z hz) ≡ endValue vs s z
           mz = mir-same z hz
 
           sum : mir z hz + z ≡ mir x hx + x

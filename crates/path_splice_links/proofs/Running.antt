@@ -7,15 +7,15 @@ use native.Mathlib.Omega.{arith}
 use native.Mathlib.Decide.{ℕ-discrete}
 use lib.ListN.{length, getD, set, length-set}
 use lib.Seq.{getD-set-same, getD-set-other}
-use Rattle.path_splice_links.specs.Runs.{valueOf, Run, Pair, Mirror, Ranked, Reach, Mirrored, Linked}
+use Rattle.path_splice_links.specs.Runs.{endValue, Run, Pair, Mirror, Ranked, Reach, Mirrored, Linked}
 use Rattle.order.proofs.Tests.{le-or}
 
-pub same-more : (vs s : List ℕ) (p q : ℕ) → ((z : ℕ) → p ≤ z → z < q → valueOf vs s z ≡ valueOf vs s p) → valueOf vs s q ≡ valueOf vs s p
-    → (z : ℕ) → p ≤ z → z < q + 1 → valueOf vs s z ≡ valueOf vs s p
-same-more vs s p q h e z a b = elim (ℕ-discrete z q) [ yes o ↦ ap (valueOf vs s) o ∙ e | no o ↦ h z a (omega arith) ]
+pub same-more : (vs s : List ℕ) (p q : ℕ) → ((z : ℕ) → p ≤ z → z < q → endValue vs s z ≡ endValue vs s p) → endValue vs s q ≡ endValue vs s p
+    → (z : ℕ) → p ≤ z → z < q + 1 → endValue vs s z ≡ endValue vs s p
+same-more vs s p q h e z a b = elim (ℕ-discrete z q) [ yes o ↦ ap (endValue vs s) o ∙ e | no o ↦ h z a (omega arith) ]
 
-pub same-one : (vs s : List ℕ) (p z : ℕ) → p ≤ z → z < p + 1 → valueOf vs s z ≡ valueOf vs s p
-same-one vs s p z a b = let o : z ≡ p = omega arith in ap (valueOf vs s) o
+pub same-one : (vs s : List ℕ) (p z : ℕ) → p ≤ z → z < p + 1 → endValue vs s z ≡ endValue vs s p
+same-one vs s p z a b = let o : z ≡ p = omega arith in ap (endValue vs s) o
 
 pub mirrored-none : (s ls : List ℕ) (p q : ℕ) → Mirrored s ls ls p q p
 mirrored-none s ls p q = record { size = refl; pairs = λ z a b. absurd (omega arith); rest = λ e h. refl }
@@ -42,22 +42,22 @@ linked-none vs s ls = record { size = refl; each = λ x h. absurd (omega arith);
 
 -- a run begins at p: no place before it has the value of one after it
 abbrev pub Edge : List ℕ → List ℕ → ℕ → Type 0
-Edge vs s p = (x y : ℕ) → x < p → p ≤ y → y < length s → valueOf vs s x ≢ valueOf vs s y
+Edge vs s p = (x y : ℕ) → x < p → p ≤ y → y < length s → endValue vs s x ≢ endValue vs s y
 
 module _ (vs s : List ℕ) (m : ℕ) (R : Ranked vs s m) where
   pub apart : (x y : ℕ) → x < y → y < length s → getD s x 0 ≢ getD s y 0
   apart x y l h e = ⊎-elim (λ a. omega (arith, ap (λ (z : ℕ). getD vs z 0) e)) (λ a. omega (arith, a .1)) (R .rise x y l h)
 
-  under : (x y : ℕ) → x ≤ y → y < length s → valueOf vs s x ≤ valueOf vs s y
-  under x y l h = elim (ℕ-discrete x y) [ yes o ↦ omega (arith, ap (valueOf vs s) o) | no o ↦ ⊎-elim (λ a. omega arith) (λ a. omega (arith, a .0)) (R .rise x y (omega arith) h) ]
+  under : (x y : ℕ) → x ≤ y → y < length s → endValue vs s x ≤ endValue vs s y
+  under x y l h = elim (ℕ-discrete x y) [ yes o ↦ omega (arith, ap (endValue vs s) o) | no o ↦ ⊎-elim (λ a. omega arith) (λ a. omega (arith, a .0)) (R .rise x y (omega arith) h) ]
 
   module _ (p q : ℕ) (Q : Reach vs s p q) (E : Edge vs s p) where
-    later : (y : ℕ) → q ≤ y → y < length s → valueOf vs s p < valueOf vs s y
+    later : (y : ℕ) → q ≤ y → y < length s → endValue vs s p < endValue vs s y
     later y a b =
         let u = under p q (omega (arith, Q .some)) (omega arith) in
         let v = under q y a b in
         let n = Q .stop (omega arith) in
-        elim (ℕ-discrete (valueOf vs s q) (valueOf vs s p)) [ yes o ↦ absurd (n o) | no o ↦ omega arith ]
+        elim (ℕ-discrete (endValue vs s q) (endValue vs s p)) [ yes o ↦ absurd (n o) | no o ↦ omega arith ]
 
     pub run-is : Run vs s p q
     run-is =

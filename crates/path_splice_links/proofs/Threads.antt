@@ -9,10 +9,10 @@ use lib.ListN.{length, getD, set, take, drop, replicate, length-replicate, lengt
 use lib.Seq.{take-take, take-at}
 use Rattle.order.specs.Regions.{region, put, Off, Into2}
 use Rattle.path_splice_links.specs.Layout.{LinksIn}
-use Rattle.path_splice_rule.specs.Splice.{isZero, opposite, onward, run, from, pass, atFree, atLast, chainsOf, links, Walked, Drawn}
+use Rattle.path_splice_rule.specs.Splice.{isZero, opposite, onward, run, from, pass, atFree, atLast, chainsOf, links, Walked, Chained}
 use Rattle.path_splice_links.specs.Ends.{fit, fitLive}
 use Rattle.path_splice_rule.specs.Totals.{total}
-use Rattle.path_splice_links.specs.Walk.{linkIn, Within, doubledEnds, allDoubled, RunIs, Drew, entry, begun, Ready, orderIn, Woven, Threaded, threaded, threadIn}
+use Rattle.path_splice_links.specs.Walk.{linkIn, Within, doubledEnds, allDoubled, RunIs, Drew, entry, begunAt, Walkable, orderIn, Woven, Threaded, threaded, threadIn}
 use lib.Dec.{eqb}
 use borrow.Author.Tests.{le-leb, lt-leb}
 use Rattle.path_splice_rule.proofs.Ends.{is-zero, not-zero}
@@ -28,7 +28,7 @@ use Rattle.refusal.specs.Limits.{mostStrokes}
 pub away : (n : ℕ) → Off (6 * n) n (2 * n) n
 away n = inr (omega arith)
 
-module _ (s₀ : List ℕ) (n at : ℕ) (R : Ready s₀ n at) where
+module _ (s₀ : List ℕ) (n at : ℕ) (R : Walkable s₀ n at) where
   abbrev L : List ℕ
   L = region s₀ (4 * n) (2 * n)
 
@@ -103,10 +103,10 @@ module _ (s₀ : List ℕ) (n at : ℕ) (R : Ready s₀ n at) where
     abbrev target : ℕ
     target = cond (isZero (getD T i 0)) 0 (entry (linkIn L) rings i)
 
-    pub drew-none : target ≡ 0 → Into2 s₀ s₀ (6 * n) n (2 * n) n (λ t o. Drew (begun L n T rings i) O at t o at)
-    unfolding begun from allDoubled
+    pub drew-none : target ≡ 0 → Into2 s₀ s₀ (6 * n) n (2 * n) n (λ t o. Drew (begunAt L n T rings i) O at t o at)
+    unfolding begunAt from allDoubled
     drew-none e =
-        into2-none (6 * n) n (2 * n) n (away n) s₀ (λ t o. Drew (begun L n T rings i) O at t o at) (omega (arith, R .size)) (omega (arith, R .size))
+        into2-none (6 * n) n (2 * n) n (away n) s₀ (λ t o. Drew (begunAt L n T rings i) O at t o at) (omega (arith, R .size)) (omega (arith, R .size))
         (record { left = rw e; front = rw e (sym (append-nil (take at O))); room = omega (arith, R .room, long-o) })
 
     pub skipped : getD s₀ (6 * n + i) 0 ≡ 0 → i < n → target ≡ 0
@@ -135,15 +135,15 @@ module _ (s₀ : List ℕ) (n at : ℕ) (R : Ready s₀ n at) where
     start-todo e z h q = rw (start-is e q) (to-do z h)
 
     pub drew-run : (s : List ℕ) (e r : ℕ) → getD s₀ (6 * n + i) 0 ≢ 0 → i < n → suc e ≡ entry (linkIn L) rings i
-        → Into2 s₀ s (6 * n) n (2 * n) n (λ t o. RunIs L T O at e t o r) → Into2 s₀ s (6 * n) n (2 * n) n (λ t o. Drew (begun L n T rings i) O at t o r)
-    unfolding begun from allDoubled
+        → Into2 s₀ s (6 * n) n (2 * n) n (λ t o. RunIs L T O at e t o r) → Into2 s₀ s (6 * n) n (2 * n) n (λ t o. Drew (begunAt L n T rings i) O at t o r)
+    unfolding begunAt from allDoubled
     drew-run s e r z h q J =
         let u : target ≡ suc e = entered (suc e) z h q in
         let d : run (linkIn L) (length T) T e ≡ run (linkIn L) n T e = ap (λ (k : ℕ). run (linkIn L) k T e) long-t in
-        into2-as (6 * n) n (2 * n) n (away n) s₀ s _ J (λ t o. Drew (begun L n T rings i) O at t o r)
+        into2-as (6 * n) n (2 * n) n (away n) s₀ s _ J (λ t o. Drew (begunAt L n T rings i) O at t o r)
         (record {
-          left = rw u (J .ok .left ∙ ap (λ (w : Drawn). w .left) d);
-          front = rw u (J .ok .front ∙ ap (λ (w : Drawn). take at O ++ doubledEnds 1 (w .chain)) d ∙ ap (λ (w : List ℕ). take at O ++ w) (sym (append-nil (doubledEnds 1 (run (linkIn L) n T e .chain)))));
+          left = rw u (J .ok .left ∙ ap (λ (w : Chained). w .left) d);
+          front = rw u (J .ok .front ∙ ap (λ (w : Chained). take at O ++ doubledEnds 1 (w .chain)) d ∙ ap (λ (w : List ℕ). take at O ++ w) (sym (append-nil (doubledEnds 1 (run (linkIn L) n T e .chain)))));
           room = J .ok .room;
         })
 
@@ -171,7 +171,7 @@ pub record Passing (s₀ : List ℕ) (n at : ℕ) (rings : Bool) (i k : ℕ) (t 
       ≡ take k o ++ allDoubled (pass (entry (linkIn (region s₀ (4 * n) (2 * n))) rings) (linkIn (region s₀ (4 * n) (2 * n))) n (n - i) i t .chains)
   pub room : total (λ s. 1) 0 t + k ≤ length o
 
-module _ (s₀ : List ℕ) (n at : ℕ) (R : Ready s₀ n at) (rings : Bool) where
+module _ (s₀ : List ℕ) (n at : ℕ) (R : Walkable s₀ n at) (rings : Bool) where
   abbrev LL : List ℕ
   LL = region s₀ (4 * n) (2 * n)
 
@@ -206,24 +206,24 @@ module _ (s₀ : List ℕ) (n at : ℕ) (R : Ready s₀ n at) (rings : Bool) whe
     o-is : region s (2 * n) n ≡ I .k
     o-is = into2-second (6 * n) n (2 * n) n (away n) s₀ s (Passing s₀ n at rings i k) I (omega (arith, R .size))
 
-    pub ready-more : Ready s n k
+    pub ready-more : Walkable s n k
     ready-more = record { size = omega (arith, R .size, size-is); few = R .few; within = rw l-is (R .within); room = rw t-is (omega (arith, I .ok .room, I .size2)) }
 
     module _ (h : i < n) (s′ : List ℕ) (r : ℕ)
-        (J : Into2 s s′ (6 * n) n (2 * n) n (λ t o. Drew (begun (region s (4 * n) (2 * n)) n (region s (6 * n) n) rings i) (region s (2 * n) n) k t o r)) where
-      drew : Drew (begun LL n (I .l) rings i) (I .k) k (J .l) (J .k) r
+        (J : Into2 s s′ (6 * n) n (2 * n) n (λ t o. Drew (begunAt (region s (4 * n) (2 * n)) n (region s (6 * n) n) rings i) (region s (2 * n) n) k t o r)) where
+      drew : Drew (begunAt LL n (I .l) rings i) (I .k) k (J .l) (J .k) r
       drew =
-          let a : Drew (begun LL n (region s (6 * n) n) rings i) (region s (2 * n) n) k (J .l) (J .k) r = subst (λ (z : List ℕ). Drew (begun z n (region s (6 * n) n) rings i) (region s (2 * n) n) k (J .l) (J .k) r) l-is (J .ok) in
-          let b : Drew (begun LL n (I .l) rings i) (region s (2 * n) n) k (J .l) (J .k) r = subst (λ (z : List ℕ). Drew (begun LL n z rings i) (region s (2 * n) n) k (J .l) (J .k) r) t-is a in
-          subst (λ (z : List ℕ). Drew (begun LL n (I .l) rings i) z k (J .l) (J .k) r) o-is b
+          let a : Drew (begunAt LL n (region s (6 * n) n) rings i) (region s (2 * n) n) k (J .l) (J .k) r = subst (λ (z : List ℕ). Drew (begunAt z n (region s (6 * n) n) rings i) (region s (2 * n) n) k (J .l) (J .k) r) l-is (J .ok) in
+          let b : Drew (begunAt LL n (I .l) rings i) (region s (2 * n) n) k (J .l) (J .k) r = subst (λ (z : List ℕ). Drew (begunAt LL n z rings i) (region s (2 * n) n) k (J .l) (J .k) r) t-is a in
+          subst (λ (z : List ℕ). Drew (begunAt LL n (I .l) rings i) z k (J .l) (J .k) r) o-is b
 
       abbrev Q : Walked
       Q = pass E (linkIn LL) n (n - (i + 1)) (i + 1) (J .l)
 
-      step-is : pass E (linkIn LL) n (n - i) i (I .l) ≡ record { chains = begun LL n (I .l) rings i .chains ++ Q .chains; left = Q .left }
-      unfolding begun
+      step-is : pass E (linkIn LL) n (n - i) i (I .l) ≡ record { chains = begunAt LL n (I .l) rings i .chains ++ Q .chains; left = Q .left }
+      unfolding begunAt
       step-is =
-          let w = begun LL n (I .l) rings i in
+          let w = begunAt LL n (I .l) rings i in
           let e : suc i ≡ i + 1 = omega arith in
           let d : pass E (linkIn LL) n (n - (i + 1)) (suc i) (w .left) ≡ Q = ap (λ (z : ℕ). pass E (linkIn LL) n (n - (i + 1)) z (w .left)) e ∙ ap (pass E (linkIn LL) n (n - (i + 1)) (i + 1)) (sym (drew .left)) in
           pass-step E (linkIn LL) n (n - (i + 1)) i (I .l) (n - i) (omega arith) ∙ ap (λ (q : Walked). record { chains = w .chains ++ q .chains; left = q .left }) d
@@ -235,8 +235,8 @@ module _ (s₀ : List ℕ) (n at : ℕ) (R : Ready s₀ n at) (rings : Bool) whe
           (record {
             left = I .ok .left ∙ ap (λ (q : Walked). q .left) step-is;
             front =
-                I .ok .front ∙ ap (λ (q : Walked). take k (I .k) ++ allDoubled (q .chains)) step-is ∙ ap (λ (q : List ℕ). take k (I .k) ++ q) (ink-append (begun LL n (I .l) rings i .chains) (Q .chains))
-                ∙ sym (append-assoc (take k (I .k)) (allDoubled (begun LL n (I .l) rings i .chains)) (allDoubled (Q .chains))) ∙ ap (λ (q : List ℕ). q ++ allDoubled (Q .chains)) (sym (drew .front));
+                I .ok .front ∙ ap (λ (q : Walked). take k (I .k) ++ allDoubled (q .chains)) step-is ∙ ap (λ (q : List ℕ). take k (I .k) ++ q) (ink-append (begunAt LL n (I .l) rings i .chains) (Q .chains))
+                ∙ sym (append-assoc (take k (I .k)) (allDoubled (begunAt LL n (I .l) rings i .chains)) (allDoubled (Q .chains))) ∙ ap (λ (q : List ℕ). q ++ allDoubled (Q .chains)) (sym (drew .front));
             room = drew .room;
           }))
 
@@ -314,7 +314,7 @@ module _ (s₀ : List ℕ) (n : ℕ) (H : 7 * n ≤ length s₀) (few : n ≤ mo
   abbrev TS : List ℕ
   TS = region s₀ (6 * n) n
 
-  pub ready-first : Ready s1 n 0
+  pub ready-first : Walkable s1 n 0
   ready-first =
       record {
         size = omega arith;
@@ -345,7 +345,7 @@ module _ (s₀ : List ℕ) (n : ℕ) (H : 7 * n ≤ length s₀) (few : n ≤ mo
     o2 : take k (region s2 (2 * n) n) ≡ allDoubled (P1 .chains)
     o2 = ap (take k) (into2-second (6 * n) n (2 * n) n (away n) s1 s2 _ J (omega arith)) ∙ J .ok .front ∙ ap (λ (w : Walked). allDoubled (w .chains)) first-is
 
-    pub ready-second : Ready s2 n k
+    pub ready-second : Walkable s2 n k
     ready-second =
         record {
           size = omega (arith, z2);

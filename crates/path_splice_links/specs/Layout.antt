@@ -17,8 +17,8 @@ linksAt n = 4 * n
 abbrev pub todoAt : ℕ → ℕ
 todoAt n = 6 * n
 
-abbrev pub wordsOf : ℕ → ℕ
-wordsOf n = 7 * n
+abbrev pub wordsFor : ℕ → ℕ
+wordsFor n = 7 * n
 
 -- the value and the link of each end, and of each stroke whether it is to do
 abbrev pub valuesIn : List ℕ → ℕ → List ℕ
@@ -39,4 +39,4 @@ pub record LinksIn (s s′ : List ℕ) (n : ℕ) : Type 0 where
   pub links : linksIn s′ n ≡ linksOf s n
   pub todo : todoIn s′ n ≡ todoIn s n
   pub values : valuesIn s′ n ≡ valuesIn s n
-  pub rest : (b m : ℕ) → wordsOf n ≤ b → b + m ≤ length s → region s′ b m ≡ region s b m
+  pub rest : (b m : ℕ) → wordsFor n ≤ b → b + m ≤ length s → region s′ b m ≡ region s b m

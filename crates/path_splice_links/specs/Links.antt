@@ -4,6 +4,6 @@ use Rattle.path_splice_rule.specs.Splice.{free, to}
 use Rattle.path_splice_links.specs.declared.Link.{Link}
 use Rattle.path_splice_links.specs.declared.Link.the-variants.{To, Free}
 
-abbrev pub wordOf : Link → ℕ
-wordOf (To f) = to (f .0)
-wordOf Free = free
+abbrev pub linkWord : Link → ℕ
+linkWord (To f) = to (f .0)
+linkWord Free = free

@@ -7,15 +7,15 @@ use lib.ListN.{length, getD}
 use Rattle.path_splice_rule.specs.Splice.{strokeOf, free, to}
 
 -- the value of the end at place x
-abbrev pub valueOf : List ℕ → List ℕ → ℕ → ℕ
-valueOf vs s x = getD vs (getD s x 0) 0
+abbrev pub endValue : List ℕ → List ℕ → ℕ → ℕ
+endValue vs s x = getD vs (getD s x 0) 0
 
 -- the places from a to b, b not among them, are those of one value
 pub record Run (vs s : List ℕ) (a b : ℕ) : Type 0 where
   pub some : a < b
   pub inside : b ≤ length s
-  pub same : (z : ℕ) → a ≤ z → z < b → valueOf vs s z ≡ valueOf vs s a
-  pub only : (z : ℕ) → z < length s → valueOf vs s z ≡ valueOf vs s a → (a ≤ z) × (z < b)
+  pub same : (z : ℕ) → a ≤ z → z < b → endValue vs s z ≡ endValue vs s a
+  pub only : (z : ℕ) → z < length s → endValue vs s z ≡ endValue vs s a → (a ≤ z) × (z < b)
 
 -- l is the link of e where f is at the mirrored place
 pub record Pair (e f l : ℕ) : Type 0 where
@@ -34,14 +34,14 @@ pub record Mirror (vs s : List ℕ) (x l : ℕ) : Type 0 where
 -- places in the order of their values, and then of the ends, which lie below m
 pub record Ranked (vs s : List ℕ) (m : ℕ) : Type 0 where
   pub each : (x : ℕ) → x < length s → getD s x 0 < m
-  pub rise : (x y : ℕ) → x < y → y < length s → (valueOf vs s x < valueOf vs s y) ⊎ ((valueOf vs s x ≡ valueOf vs s y) × (getD s x 0 < getD s y 0))
+  pub rise : (x y : ℕ) → x < y → y < length s → (endValue vs s x < endValue vs s y) ⊎ ((endValue vs s x ≡ endValue vs s y) × (getD s x 0 < getD s y 0))
 
 -- q is the first place after p with another value
 pub record Reach (vs s : List ℕ) (p q : ℕ) : Type 0 where
   pub some : p < q
   pub inside : q ≤ length s
-  pub same : (z : ℕ) → p ≤ z → z < q → valueOf vs s z ≡ valueOf vs s p
-  pub stop : q < length s → valueOf vs s q ≢ valueOf vs s p
+  pub same : (z : ℕ) → p ≤ z → z < q → endValue vs s z ≡ endValue vs s p
+  pub stop : q < length s → endValue vs s q ≢ endValue vs s p
 
 -- the ends at the places from p to x, x not among them, are linked by their mirrors in the run from p to q, and no others are changed
 pub record Mirrored (s ls ls′ : List ℕ) (p q x : ℕ) : Type 0 where

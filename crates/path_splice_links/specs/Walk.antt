@@ -8,7 +8,7 @@ use lib.Dec.{leb}
 use Rattle.refusal.specs.Limits.{mostStrokes}
 use Rattle.order.specs.Regions.{region, put}
 use Rattle.path_splice_rule.specs.Splice.{free, isZero, run, from, Walked, atFree, atLast, chainsOf}
-use Rattle.path_splice_links.specs.Layout.{orderAt, wordsOf, valuesIn, linksIn, todoIn, linksOf}
+use Rattle.path_splice_links.specs.Layout.{orderAt, wordsFor, valuesIn, linksIn, todoIn, linksOf}
 use Rattle.path_splice_rule.specs.Totals.{total}
 
 -- the link of end e
@@ -46,12 +46,12 @@ unfoldable pub entry : (ℕ → ℕ) → Bool → ℕ → ℕ
 entry link rings i = cond rings (atLast i) (atFree link i)
 
 -- the chain that begins at stroke i, if there is one
-unfoldable pub begun : List ℕ → ℕ → List ℕ → Bool → ℕ → Walked
-begun ls n todo rings i = from (linkIn ls) n todo (cond (isZero (getD todo i 0)) free (entry (linkIn ls) rings i))
+unfoldable pub begunAt : List ℕ → ℕ → List ℕ → Bool → ℕ → Walked
+begunAt ls n todo rings i = from (linkIn ls) n todo (cond (isZero (getD todo i 0)) free (entry (linkIn ls) rings i))
 
 -- a list in which a walk can go
-pub record Ready (s : List ℕ) (n at : ℕ) : Type 0 where
-  pub size : wordsOf n ≤ length s
+pub record Walkable (s : List ℕ) (n at : ℕ) : Type 0 where
+  pub size : wordsFor n ≤ length s
   pub few : n ≤ mostStrokes
   pub within : Within (linksIn s n)
   pub room : total (λ s. 1) 0 (todoIn s n) + at ≤ n
@@ -65,7 +65,7 @@ pub record Woven (s s′ : List ℕ) (n r : ℕ) : Type 0 where
   pub few : r ≤ n
   pub order : region s′ (orderAt n) r ≡ orderIn s n
   pub values : valuesIn s′ n ≡ valuesIn s n
-  pub rest : (b m : ℕ) → wordsOf n ≤ b → b + m ≤ length s → region s′ b m ≡ region s b m
+  pub rest : (b m : ℕ) → wordsFor n ≤ b → b + m ≤ length s → region s′ b m ≡ region s b m
 
 -- how many words of the order there are, and what is left in scratch
 pub record Threaded : Type 0 where
@@ -80,4 +80,4 @@ threaded r s = record { count = r; words = s }
 unfoldable pub threadIn : List ℕ → ℕ → Threaded
 threadIn s n =
     let o = orderIn s n in
-    cond (leb n mostStrokes && leb (wordsOf n) (length s)) (threaded (length o) (put s (orderAt n) (o ++ replicate (5 * n - length o) 0))) (threaded 0 s)
+    cond (leb n mostStrokes && leb (wordsFor n) (length s)) (threaded (length o) (put s (orderAt n) (o ++ replicate (5 * n - length o) 0))) (threaded 0 s)

@@ -11,22 +11,22 @@ ghost use mathlib.Core.Logic.{_≢_};
 ghost use Prim.Native.Nat.{ℕ, _+_, _-_, _*_, _/_, _<_, _≤_};
 ghost use lib.ListN.{length, getD};
 ghost use Rattle.order.specs.Regions.{region, Into, Into2};
-ghost use Rattle.path_splice_rule.specs.Splice.{isFree, opposite as oppositeOf, onward as onwardOf, pass as passOf};
-ghost use Rattle.path_splice_links.specs.Links.{wordOf};
+ghost use Rattle.path_splice_rule.specs.Splice.{strokeOf, isFree, opposite as oppositeOf, onward as onwardOf, pass as passOf};
+ghost use Rattle.path_splice_links.specs.Links.{linkWord};
 ghost use Rattle.path_splice_links.specs.Ends.{Lived};
-ghost use Rattle.path_splice_links.specs.Layout.{orderAt, linksAt, todoAt, wordsOf, valuesIn, linksIn, todoIn, LinksIn};
+ghost use Rattle.path_splice_links.specs.Layout.{orderAt, linksAt, todoAt, wordsFor, valuesIn, linksIn, todoIn, LinksIn};
 ghost use Rattle.path_splice_links.specs.Runs.{Reach, Pair, Mirrored, Ranked, Linked};
-ghost use Rattle.path_splice_links.specs.Walk.{linkIn, Within, RunIs, Drew, entry, begun, Ready, Woven, threaded, threadIn};
+ghost use Rattle.path_splice_links.specs.Walk.{linkIn, Within, RunIs, Drew, entry, begunAt, Walkable, Woven, threaded, threadIn};
 ghost use Rattle.refusal.specs.Limits.{mostStrokes};
 
 // Where the order, the links and what is to do begin, and where that ends, in words a stroke; the values lie from 0.
-const ORDER: usize = 2;
+pub const ORDER: usize = 2;
 
-const LINKS: usize = 4;
+pub const LINKS: usize = 4;
 
-const TODO: usize = 6;
+pub const TODO: usize = 6;
 
-const WORDS: usize = 7;
+pub const WORDS: usize = 7;
 
 // What an end is linked with: another end, or none.
 enum Link {
@@ -36,7 +36,7 @@ enum Link {
 
 // The link that a word says.
 fn link_in(word: u32) -> Link
-    ensures { λ r. ⌜ wordOf r ≡ word ⌝ }
+    ensures { λ r. ⌜ linkWord r ≡ word ⌝ }
 {
     if word == 0 {
         return Link::Free;
@@ -46,8 +46,8 @@ fn link_in(word: u32) -> Link
 
 // The word that says a link.
 fn word_of(l: Link) -> u32
-    requires { ⌜ wordOf l ≤ 2 * mostStrokes ⌝ }
-    ensures { λ r. ⌜ r ≡ wordOf l ⌝ }
+    requires { ⌜ linkWord l ≤ 2 * mostStrokes ⌝ }
+    ensures { λ r. ⌜ r ≡ linkWord l ⌝ }
 {
     match l {
         Link::To(f) => {
@@ -61,7 +61,7 @@ fn word_of(l: Link) -> u32
 
 // Writes the ends of the strokes that are there to the order, and answers how many there are.
 fn live_ends(s: &mut [u32], n: usize) -> usize
-    requires { ⌜ (wordsOf n ≤ length (now s)) × (n ≤ mostStrokes) ⌝ }
+    requires { ⌜ (wordsFor n ≤ length (now s)) × (n ≤ mostStrokes) ⌝ }
     ensures { λ r. ⌜ Into (now (s .entry)) (now (s .exit)) (orderAt n) (2 * n) (λ a. Lived (todoIn (now (s .entry)) n) (region (now (s .entry)) (orderAt n) (2 * n)) a r) ⌝ }
 {
     let mut e: usize = 0;
@@ -98,7 +98,7 @@ fn run_end(values: &[u32], s: &[u32], p: usize) -> usize
 
 // Where the run of place p in the order ends.
 fn reach(s: &[u32], n: usize, c: usize, p: usize) -> usize
-    requires { ⌜ (wordsOf n ≤ length (now s)) × (c ≤ 2 * n) × (p < c) × (n ≤ mostStrokes) ⌝ }
+    requires { ⌜ (wordsFor n ≤ length (now s)) × (c ≤ 2 * n) × (p < c) × (n ≤ mostStrokes) ⌝ }
     ensures { λ r. ⌜ Reach (valuesIn (now (s .entry)) n) (region (now (s .entry)) (orderAt n) c) p r ⌝ }
 {
     let m = ORDER * n;
@@ -108,8 +108,8 @@ fn reach(s: &[u32], n: usize, c: usize, p: usize) -> usize
 
 // The link of e, whose mirror is f: none where both are of one stroke.
 fn mirror_link(e: Endpoint, f: Endpoint) -> Link
-    ensures { λ r. ⌜ Pair (e .0) (f .0) (wordOf r) ⌝ }
-    ensures { λ r. ⌜ wordOf r ≤ f .0 + 1 ⌝ }
+    ensures { λ r. ⌜ Pair (e .0) (f .0) (linkWord r) ⌝ }
+    ensures { λ r. ⌜ linkWord r ≤ f .0 + 1 ⌝ }
 {
     if e.path_id() == f.path_id() {
         return Link::Free;
@@ -119,7 +119,7 @@ fn mirror_link(e: Endpoint, f: Endpoint) -> Link
 
 // Links the ends of the run from p to q.
 fn mirror_run(s: &mut [u32], n: usize, c: usize, p: usize, q: usize)
-    requires { ⌜ (wordsOf n ≤ length (now s)) × (n ≤ mostStrokes) × (c ≤ 2 * n) × (p < q) × (q ≤ c) ⌝ }
+    requires { ⌜ (wordsFor n ≤ length (now s)) × (n ≤ mostStrokes) × (c ≤ 2 * n) × (p < q) × (q ≤ c) ⌝ }
     requires { ⌜ ((x : ℕ) → x < c → getD (region (now s) (orderAt n) c) x 0 < 2 * n) ⌝ }
     requires { ⌜ ((x y : ℕ) → p ≤ x → x < y → y < q → getD (region (now s) (orderAt n) c) x 0 ≢ getD (region (now s) (orderAt n) c) y 0) ⌝ }
     ensures { λ _. ⌜ Into (now (s .entry)) (now (s .exit)) (linksAt n) (2 * n) (λ ls. Mirrored (region (now (s .entry)) (orderAt n) c) (linksIn (now (s .entry)) n) ls p q q) ⌝ }
@@ -137,7 +137,7 @@ fn mirror_run(s: &mut [u32], n: usize, c: usize, p: usize, q: usize)
 
 // Links the ends of every run.
 fn link_runs(s: &mut [u32], n: usize, c: usize)
-    requires { ⌜ (wordsOf n ≤ length (now s)) × (n ≤ mostStrokes) × (c ≤ 2 * n) ⌝ }
+    requires { ⌜ (wordsFor n ≤ length (now s)) × (n ≤ mostStrokes) × (c ≤ 2 * n) ⌝ }
     requires { ⌜ Ranked (valuesIn (now s) n) (region (now s) (orderAt n) c) (2 * n) ⌝ }
     ensures { λ _. ⌜ Into (now (s .entry)) (now (s .exit)) (linksAt n) (2 * n) (λ ls. Linked (valuesIn (now (s .entry)) n) (region (now (s .entry)) (orderAt n) c) (linksIn (now (s .entry)) n) ls c) ⌝ }
 {
@@ -151,7 +151,7 @@ fn link_runs(s: &mut [u32], n: usize, c: usize)
 
 // Links all ends that can be linked.
 fn link_ends(s: &mut [u32], n: usize)
-    requires { ⌜ (wordsOf n ≤ length (now s)) × (n ≤ mostStrokes) ⌝ }
+    requires { ⌜ (wordsFor n ≤ length (now s)) × (n ≤ mostStrokes) ⌝ }
     ensures { λ _. ⌜ LinksIn (now (s .entry)) (now (s .exit)) n ⌝ }
 {
     let c = live_ends(s, n);
@@ -169,7 +169,7 @@ fn onward(links: &[u32], todo: &[u32], e: Endpoint) -> Link
     requires { do ⌜ (← ⟦links.len()⟧) ≤ 2 * mostStrokes ⌝ }
     requires { do ⌜ e .0 < (← ⟦links.len()⟧) ⌝ }
     requires { ⌜ Within (now links) ⌝ }
-    ensures { λ r. ⌜ wordOf r ≡ onwardOf (now (todo .entry)) (linkIn (now (links .entry)) (oppositeOf (e .0))) ⌝ }
+    ensures { λ r. ⌜ linkWord r ≡ onwardOf (now (todo .entry)) (linkIn (now (links .entry)) (oppositeOf (e .0))) ⌝ }
 {
     let o = e.opposite();
     let at = o.0;
@@ -189,9 +189,9 @@ fn onward(links: &[u32], todo: &[u32], e: Endpoint) -> Link
 
 // The same, in the strokes' words.
 fn go_on(s: &[u32], n: usize, e: Endpoint) -> Link
-    requires { ⌜ (wordsOf n ≤ length (now s)) × (n ≤ mostStrokes) × (e .0 < 2 * n) ⌝ }
+    requires { ⌜ (wordsFor n ≤ length (now s)) × (n ≤ mostStrokes) × (e .0 < 2 * n) ⌝ }
     requires { ⌜ Within (linksIn (now s) n) ⌝ }
-    ensures { λ r. ⌜ wordOf r ≡ onwardOf (todoIn (now (s .entry)) n) (linkIn (linksIn (now (s .entry)) n) (oppositeOf (e .0))) ⌝ }
+    ensures { λ r. ⌜ linkWord r ≡ onwardOf (todoIn (now (s .entry)) n) (linkIn (linksIn (now (s .entry)) n) (oppositeOf (e .0))) ⌝ }
 {
     let l = LINKS * n;
     let t = TODO * n;
@@ -201,8 +201,8 @@ fn go_on(s: &[u32], n: usize, e: Endpoint) -> Link
 
 // Walks one chain from the end start, and writes the ends at which it enters, the first one marked.
 fn run(s: &mut [u32], n: usize, at: usize, start: Endpoint) -> usize
-    requires { ⌜ Ready (now s) n at ⌝ }
-    requires { ⌜ (start .0 < 2 * n) × (getD (todoIn (now s) n) (start .0 / 2) 0 ≢ 0) ⌝ }
+    requires { ⌜ Walkable (now s) n at ⌝ }
+    requires { ⌜ (start .0 < 2 * n) × (getD (todoIn (now s) n) (strokeOf (start .0)) 0 ≢ 0) ⌝ }
     ensures { λ r. ⌜ Into2 (now (s .entry)) (now (s .exit)) (todoAt n) n (orderAt n) n
         (λ t o. RunIs (linksIn (now (s .entry)) n) (todoIn (now (s .entry)) n) (region (now (s .entry)) (orderAt n) n) at (start .0) t o r) ⌝ }
 {
@@ -228,7 +228,7 @@ fn run(s: &mut [u32], n: usize, at: usize, start: Endpoint) -> usize
 
 // Whether end e is linked.
 fn is_connected(s: &[u32], n: usize, e: Endpoint) -> bool
-    requires { ⌜ (wordsOf n ≤ length (now s)) × (n ≤ mostStrokes) × (e .0 < 2 * n) ⌝ }
+    requires { ⌜ (wordsFor n ≤ length (now s)) × (n ≤ mostStrokes) × (e .0 < 2 * n) ⌝ }
     ensures { λ r. ⌜ r ≡ not (isFree (linkIn (linksIn (now (s .entry)) n) (e .0))) ⌝ }
 {
     let at = e.0;
@@ -240,8 +240,8 @@ fn is_connected(s: &[u32], n: usize, e: Endpoint) -> bool
 
 // Where stroke i is entered: a free end, the first before the last, or none; or, of rings, the last.
 fn enter(s: &[u32], n: usize, i: usize, rings: bool) -> Link
-    requires { ⌜ (wordsOf n ≤ length (now s)) × (n ≤ mostStrokes) × (i < n) ⌝ }
-    ensures { λ r. ⌜ wordOf r ≡ entry (linkIn (linksIn (now (s .entry)) n)) rings i ⌝ }
+    requires { ⌜ (wordsFor n ≤ length (now s)) × (n ≤ mostStrokes) × (i < n) ⌝ }
+    ensures { λ r. ⌜ linkWord r ≡ entry (linkIn (linksIn (now (s .entry)) n)) rings i ⌝ }
 {
     let last = Endpoint::new(i as u32, true);
     if rings {
@@ -259,10 +259,10 @@ fn enter(s: &[u32], n: usize, i: usize, rings: bool) -> Link
 
 // Walks the chain that begins at stroke i, if it is still to do and one begins there.
 fn visit(s: &mut [u32], n: usize, at: usize, i: usize, rings: bool) -> usize
-    requires { ⌜ Ready (now s) n at ⌝ }
+    requires { ⌜ Walkable (now s) n at ⌝ }
     requires { ⌜ i < n ⌝ }
     ensures { λ r. ⌜ Into2 (now (s .entry)) (now (s .exit)) (todoAt n) n (orderAt n) n
-        (λ t o. Drew (begun (linksIn (now (s .entry)) n) n (todoIn (now (s .entry)) n) rings i) (region (now (s .entry)) (orderAt n) n) at t o r) ⌝ }
+        (λ t o. Drew (begunAt (linksIn (now (s .entry)) n) n (todoIn (now (s .entry)) n) rings i) (region (now (s .entry)) (orderAt n) n) at t o r) ⌝ }
 {
     if s[TODO * n + i] == 0 {
         return at;
@@ -279,7 +279,7 @@ fn visit(s: &mut [u32], n: usize, at: usize, i: usize, rings: bool) -> usize
 
 // Walks the chains that begin at strokes in their order.
 fn walk_pass(s: &mut [u32], n: usize, at: usize, rings: bool) -> usize
-    requires { ⌜ Ready (now s) n at ⌝ }
+    requires { ⌜ Walkable (now s) n at ⌝ }
     ensures { λ r. ⌜ Into2 (now (s .entry)) (now (s .exit)) (todoAt n) n (orderAt n) n
         (λ t o. Drew (passOf (entry (linkIn (linksIn (now (s .entry)) n)) rings) (linkIn (linksIn (now (s .entry)) n)) n n 0 (todoIn (now (s .entry)) n)) (region (now (s .entry)) (orderAt n) n) at t o r) ⌝ }
 {
@@ -294,7 +294,7 @@ fn walk_pass(s: &mut [u32], n: usize, at: usize, rings: bool) -> usize
 
 // Links the n strokes, and walks all chains: first those with a free end, then the rings.
 fn link_and_walk(s: &mut [u32], n: usize) -> usize
-    requires { ⌜ (wordsOf n ≤ length (now s)) × (n ≤ mostStrokes) ⌝ }
+    requires { ⌜ (wordsFor n ≤ length (now s)) × (n ≤ mostStrokes) ⌝ }
     ensures { λ r. ⌜ Woven (now (s .entry)) (now (s .exit)) n r ⌝ }
 {
     link_ends(s, n);

@@ -8,7 +8,7 @@ use native.Mathlib.Omega.{arith}
 use native.Mathlib.Decide.{ℕ-discrete, decLe}
 use native.Mathlib.Nat.{zero-add}
 use lib.ListN.{length, getD, set, List·getD-eq-default}
-use Rattle.path_splice_rule.specs.Splice.{isZero, down, opposite, onward, after, run, from, pass, atFree, atLast, chainsOf, Drawn, Walked}
+use Rattle.path_splice_rule.specs.Splice.{isZero, down, opposite, onward, after, run, from, pass, atFree, atLast, chainsOf, Chained, Walked}
 use Rattle.path_splice_rule.specs.Demand.{sum}
 use Rattle.path_splice_rule.proofs.Ends.{opp-stroke, opp-ne, two-ends, zero-of, nonzero-of}
 use Rattle.path_splice_rule.specs.Totals.{total}
@@ -132,7 +132,7 @@ module _ (link : ℕ → ℕ) (back : (e f : ℕ) → link e ≡ suc f → link 
         at-exit : a ≡ x → Done t b
         at-exit q = let be : b ≡ e₀ = omega (arith, l, rw q at k) in rw be (M .start-done)
 
-  pub record Ran (t : List ℕ) (e₀ e : ℕ) (r : Drawn) : Type 0 where
+  pub record Ran (t : List ℕ) (e₀ e : ℕ) (r : Chained) : Type 0 where
     pub closed : Closed (r .left)
     pub less : (s : ℕ) → getD t s 0 ≡ 0 → getD (r .left) s 0 ≡ 0
     pub began : getD (r .left) (e / 2) 0 ≡ 0
@@ -178,7 +178,7 @@ module _ (link : ℕ → ℕ) (back : (e f : ℕ) → link e ≡ suc f → link 
       Rec : Type 0
       Rec = (f : ℕ) → link (opposite e) ≡ suc f → Todo (set t (e / 2) 0) f → Ran (set t (e / 2) 0) e₀ f (run link k (set t (e / 2) 0) f)
 
-      added : (f : ℕ) → link (opposite e) ≡ suc f → (r : Drawn) → Ran (set t (e / 2) 0) e₀ f r → Ran t e₀ e (record { chain = e ∷ r .chain; left = r .left })
+      added : (f : ℕ) → link (opposite e) ≡ suc f → (r : Chained) → Ran (set t (e / 2) 0) e₀ f r → Ran t e₀ e (record { chain = e ∷ r .chain; left = r .left })
       added f l r R =
           record {
             closed = R .closed;

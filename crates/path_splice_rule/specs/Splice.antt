@@ -13,9 +13,13 @@ abbrev pub endOn : ℕ → Bool → ℕ
 endOn s false = 2 * s
 endOn s true = 2 * s + 1
 
+-- 0 for a first end, 1 for a last
+abbrev pub sideOf : ℕ → ℕ
+sideOf e = e % 2
+
 -- the other end of the stroke
 abbrev pub opposite : ℕ → ℕ
-opposite e = e + 1 - 2 * (e % 2)
+opposite e = e + 1 - 2 * sideOf e
 
 abbrev pub isZero : ℕ → Bool
 isZero zero = true
@@ -65,16 +69,16 @@ onward todo zero = free
 onward todo (suc f) = cond (isZero (getD todo (strokeOf f) 0)) free (to f)
 
 -- the ends at which the strokes of one chain are entered, and what is then left to do
-abbrev pub Drawn : Type 0
-Drawn = record { chain : List ℕ; left : List ℕ }
+abbrev pub Chained : Type 0
+Chained = record { chain : List ℕ; left : List ℕ }
 
 -- the chain from e on: e alone where the walk stops there, else e before the rest
-unfoldable pub after : ℕ → List ℕ → ℕ → Drawn → Drawn
+unfoldable pub after : ℕ → List ℕ → ℕ → Chained → Chained
 after e t zero r = record { chain = e ∷ []; left = t }
 after e t (suc f) r = record { chain = e ∷ r .chain; left = r .left }
 
 -- the chain that enters at e, of at most k more strokes
-unfoldable pub run : (ℕ → ℕ) → ℕ → List ℕ → ℕ → Drawn
+unfoldable pub run : (ℕ → ℕ) → ℕ → List ℕ → ℕ → Chained
 run link zero todo e = record { chain = e ∷ []; left = set todo (strokeOf e) 0 }
 run link (suc k) todo e =
     let t = set todo (strokeOf e) 0 in
@@ -101,10 +105,10 @@ pass enter link n (suc k) s todo =
 
 -- first the strokes with a free end, entered at the first if that is free; then rings, entered at the last
 unfoldable pub atFree : (ℕ → ℕ) → ℕ → ℕ
-atFree link s = cond (isFree (link (2 * s))) (to (2 * s)) (cond (isFree (link (2 * s + 1))) (to (2 * s + 1)) free)
+atFree link s = cond (isFree (link (endOn s false))) (to (endOn s false)) (cond (isFree (link (endOn s true))) (to (endOn s true)) free)
 
 unfoldable pub atLast : ℕ → ℕ
-atLast s = to (2 * s + 1)
+atLast s = to (endOn s true)
 
 -- all chains of n strokes
 unfoldable pub chainsOf : (ℕ → ℕ) → ℕ → List ℕ → List (List ℕ)
@@ -128,7 +132,7 @@ module _ {A : Type 0} where
   present [] = 0
   present (x ∷ s) = 1
 
-  -- the point at an end of a stroke: side 0 is the first, 1 the last
+  -- the point at an end of a stroke, by its side
   unfoldable pub endOf : A → ℕ → List A → A
   endOf d zero s = firstOf d s
   endOf d (suc k) s = lastOf d s
@@ -139,7 +143,7 @@ module _ {A : Type 0} where
   turned (suc k) s = reverse s
 
   unfoldable pub valueAt : A → List (List A) → ℕ → A
-  valueAt d ss e = endOf d (e % 2) (getD ss (strokeOf e) [])
+  valueAt d ss e = endOf d (sideOf e) (getD ss (strokeOf e) [])
 
   -- two ends may be linked: of strokes with points, not of one stroke, and of equal value
   unfoldable pub joinable : A → (A → A → Bool) → List (List A) → ℕ → ℕ → Bool
@@ -149,7 +153,7 @@ module _ {A : Type 0} where
 
   -- a stroke as it is read from the end e
   unfoldable pub readFrom : List (List A) → ℕ → List A
-  readFrom ss e = turned (e % 2) (getD ss (strokeOf e) [])
+  readFrom ss e = turned (sideOf e) (getD ss (strokeOf e) [])
 
   -- each joined stroke loses its first read point
   unfoldable pub added : List (List A) → List ℕ → List A
@@ -164,4 +168,4 @@ module _ {A : Type 0} where
   unfoldable pub splice : A → (A → A → Bool) → List (List A) → List (List A)
   splice d same ss =
       let ls = links (joinable d same ss) (2 * length ss) in
-      map (readChain ss) (chainsOf (λ e. getD ls e 0) (length ss) (map present ss))
+      map (readChain ss) (chainsOf (λ e. getD ls e free) (length ss) (map present ss))

@@ -6,8 +6,8 @@ use lib.ListN.{getD, set}
 use lib.Dec.{eqb, ltb}
 
 -- the value of a digit, 16 where the byte is none
-unfoldable pub digitOf : ℕ → ℕ
-digitOf b = cond (ltb 47 b && ltb b 58) (b - 48) (cond (ltb 96 b && ltb b 103) (b - 87) 16)
+unfoldable pub hexOf : ℕ → ℕ
+hexOf b = cond (ltb 47 b && ltb b 58) (b - 48) (cond (ltb 96 b && ltb b 103) (b - 87) 16)
 
 -- a digit more of the word that is being read; what is no digit, or a word too many, spoils the row
 unfoldable pub fitsIn : ℕ → ℕ → Bool
@@ -22,7 +22,7 @@ withEnd page = cond (ltb (getD page 254 0) 248) (set page 254 (getD page 254 0 +
 
 -- a byte: a line's end or a space ends a word
 unfoldable pub fed : List ℕ → ℕ → List ℕ
-fed page b = cond (eqb b 10) (withEnd page) (cond (eqb b 32) (withEnd page) (withDigit page (digitOf b)))
+fed page b = cond (eqb b 10) (withEnd page) (cond (eqb b 32) (withEnd page) (withDigit page (hexOf b)))
 
 -- the function of a row, 0 where it is none
 unfoldable pub kindOf : List ℕ → ℕ → ℕ

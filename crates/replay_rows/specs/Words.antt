@@ -6,8 +6,8 @@ use lib.ListN.{getD}
 use lib.Dec.{eqb, ltb}
 use lib.Ieee.{Float, binary64, eq, ofBits, nanBits, toBits}
 
-abbrev pub zero64 : Float
-zero64 = ofBits binary64 0
+abbrev pub plusZero : Float
+plusZero = ofBits binary64 0
 
 -- whether a number has a pattern, or both are NaN
 unfoldable pub sameOf : Float → ℕ → Bool
@@ -22,8 +22,8 @@ unfoldable pub pastOf : ℕ → ℕ → ℕ
 pastOf at n = cond (ltb (at + n) 249) (at + n) 249
 
 -- how many elements a list has, at most 96
-unfoldable pub sizeOf : List ℕ → ℕ → ℕ
-sizeOf page at = cond (ltb (wordOf page at) 96) (wordOf page at) 96
+unfoldable pub listSize : List ℕ → ℕ → ℕ
+listSize page at = cond (ltb (wordOf page at) 96) (wordOf page at) 96
 
 -- a word as a number, as a coordinate, as a byte
 abbrev pub u32Of : List ℕ → ℕ → ℕ

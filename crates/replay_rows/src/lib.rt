@@ -9,10 +9,10 @@ ghost use Prim.Native.Nat.{_*_, _≤_, _<_};
 ghost use lib.ListN.{length, replicate};
 ghost use lib.Dec.{eqb};
 ghost use lib.Ieee.{binary64, ofBits, nanBits};
-ghost use Rattle.replay_rows.specs.Words.{zero64, sameOf, wordOf, pastOf, sizeOf, u32Of, realOf, byteOf};
+ghost use Rattle.replay_rows.specs.Words.{plusZero, sameOf, wordOf, pastOf, listSize, u32Of, realOf, byteOf};
 ghost use Rattle.replay_rows.specs.Lists.{filled, expected};
 ghost use Rattle.replay_rows.specs.Answers.{wroteOf, refusedBy, endsAt, elementsOf, countIs, countsAre, headIs, wordsAre, realsAre, pointsLeft, numbersLeft, scratchOf};
-ghost use Rattle.replay_rows.specs.Rows.{digitOf, fitsIn, withDigit, withEnd, fed, kindOf, goodRow, bumped, counted, namesIn};
+ghost use Rattle.replay_rows.specs.Rows.{hexOf, fitsIn, withDigit, withEnd, fed, kindOf, goodRow, bumped, counted, namesIn};
 
 // The places of a page after its words.
 const WORDS: usize = 248;
@@ -83,7 +83,7 @@ pub fn past(at: usize, n: usize) -> usize
 
 // A count of a list, which has at most 96.
 pub fn size(page: &[u64; 256], at: usize) -> usize
-    ensures { λ r. ⌜ (r ≡ sizeOf (now (page .entry)) at) × (r ≤ 96) ⌝ }
+    ensures { λ r. ⌜ (r ≡ listSize (now (page .entry)) at) × (r ≤ 96) ⌝ }
 {
     let n = word(page, at);
     if n < 96 {
@@ -130,7 +130,7 @@ pub fn numbers(page: &[u64; 256], at: usize) -> [u32; 96]
 
 // The 96 words from a place on, as a list of coordinates.
 pub fn reals(page: &[u64; 256], at: usize) -> [f64; 96]
-    ensures { λ r. ⌜ (r ≡ filled (λ i. realOf (now (page .entry)) (pastOf at i)) (replicate 96 zero64) 96) × (length r ≡ 96) ⌝ }
+    ensures { λ r. ⌜ (r ≡ filled (λ i. realOf (now (page .entry)) (pastOf at i)) (replicate 96 plusZero) 96) × (length r ≡ 96) ⌝ }
 {
     let mut list = [0.0; 96];
     let mut i = 0;
@@ -381,7 +381,7 @@ pub fn seen_left(page: &[u64; 256], status: u64, seen: &[f64]) -> bool
 
 // The value of a digit, 16 where the byte is none.
 fn digit(b: u8) -> u64
-    ensures { λ r. ⌜ r ≡ digitOf b ⌝ }
+    ensures { λ r. ⌜ r ≡ hexOf b ⌝ }
 {
     if 47 < b {
         if b < 58 {

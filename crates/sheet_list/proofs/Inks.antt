@@ -10,7 +10,7 @@ use lib.Seq.{sets}
 use lib.Dec.{ltb}
 use borrow.Author.Tests.{lt-ltb, le-ltb}
 use Rattle.path.specs.Strokes.{gather}
-use Rattle.path.specs.InnerPushes.{Course, course, advanced}
+use Rattle.path.specs.Courses.{Course, course, advanced}
 use Rattle.path.proofs.Points.{numbers-lie}
 use Rattle.path.proofs.Pushes.{ink-none, ink-append}
 use Rattle.path.proofs.Gathers.{gather-more, gather-none, length-gather}

@@ -6,14 +6,14 @@ use Prim.Native.Nat.{ℕ, zero, suc, _+_, _-_, _*_, _/_, _%_, _≤_, _<_}
 use native.Mathlib.Omega.{arith}
 use lib.ListN.{length, getD, drop, length-append}
 use lib.Seq.{sets}
-use lib.Dec.{leb, ltb, eqb}
+use lib.Dec.{ltb, eqb}
 use borrow.Author.Tests.{eqb-true, le-leb, lt-leb}
 use Rattle.refusal.specs.Limits.{mostStrokes}
 use Rattle.refusal.specs.declared.Refusal.the-variants.{Count, Sheet}
 use Rattle.refusal.specs.Refusals.{numberOf}
 use Rattle.path.specs.Strokes.{goodFrom, goodStarts, gather, strokesOf, numberAt, strokesIn}
 use Rattle.path.specs.Laid.{joined}
-use Rattle.path.specs.InnerPushes.{Course, course, advanced}
+use Rattle.path.specs.Courses.{Course, course, advanced}
 use Rattle.path.proofs.Tests.{both}
 use Rattle.path.proofs.Starts.{getD-any, table-next}
 use Rattle.path.proofs.Pushes.{ink-none, ink-place}
@@ -24,7 +24,8 @@ use Rattle.sheet.proofs.Sizes.{limits}
 use Rattle.path.proofs.Again.{joined-all, strokes-count}
 use Rattle.sheet.proofs.Tables.{table-good}
 use Rattle.sheet.proofs.Back.{gather-same, tested}
-use Rattle.sheet_list.specs.Listing.{digitsFrom, decimal, spaced, lineOf, linesOf, numberIn, numbersAt, listed, refusedText, mostBytes, mostText, textOf}
+use Rattle.sheet_list.specs.Listing.{digitsFrom, decimal, spaced, lineOf, linesOf, listed, refusedText, mostBytes, mostText, textOf}
+use Rattle.sheet_list.specs.InnerLines.{numberIn, numbersAt}
 use Rattle.sheet_list.proofs.Inks.{ink-two, start-in}
 
 -- the numbers of a stroke, counted from the first number and from the first word

@@ -1,3 +1,4 @@
 pub mod Listing
 pub mod Decimals
 pub mod Cases
+pub mod InnerLines

@@ -1,14 +1,14 @@
 -- The text that lists a sheet, in bytes.
 use mathlib.Core.Bool.{cond}
 use mathlib.Core.List.{List, [], _∷_, _++_, map}
-use Prim.Native.Nat.{ℕ, zero, suc, _+_, _-_, _*_, _/_, _%_}
+use Prim.Native.Nat.{ℕ, zero, suc, _+_, _*_, _/_, _%_}
 use lib.ListN.{length}
 use lib.Dec.{leb, ltb}
 use Rattle.refusal.specs.declared.Refusal.the-variants.{Count, Sheet}
 use Rattle.refusal.specs.Refusals.{numberOf}
-use Rattle.path.specs.Strokes.{gather, strokesIn}
+use Rattle.path.specs.Strokes.{strokesIn}
 use Rattle.path.specs.Laid.{joined}
-use Rattle.sheet.specs.Sheets.{numbersFrom, wordAt, modeIn, verticesIn, strokeCount, pointCount, startsIn, numbersIn, isSheet}
+use Rattle.sheet.specs.Sheets.{modeIn, verticesIn, strokeCount, pointCount, startsIn, numbersIn, isSheet}
 
 -- the power of ten of n's first digit, from the power p on, at most f powers up
 unfoldable pub topFrom : ℕ → ℕ → ℕ → ℕ
@@ -37,13 +37,6 @@ lineOf (x ∷ xs) = decimal x ++ (spaced xs ++ 10 ∷ [])
 -- a line a stroke
 abbrev pub linesOf : List (List ℕ) → List ℕ
 linesOf ss = joined (map lineOf ss)
-
--- the vertex number at a place, of a sheet of so many strokes, and those from a place up to another
-abbrev pub numberIn : List ℕ → ℕ → ℕ → ℕ
-numberIn bs strokes k = wordAt bs (numbersFrom strokes + k)
-
-abbrev pub numbersAt : List ℕ → ℕ → ℕ → ℕ → List ℕ
-numbersAt bs strokes a e = gather (numberIn bs strokes) a (e - a)
 
 -- mode, vertices, strokes, points; then the strokes
 unfoldable pub listed : List ℕ → List ℕ

@@ -17,10 +17,11 @@ ghost use Prim.Native.Nat.{_+_, _-_, _*_, _≤_};
 ghost use lib.ListN.{getD};
 ghost use lib.Seq.{sets};
 ghost use Rattle.path.specs.Strokes.{gather, strokesOf};
-ghost use Rattle.path.specs.InnerPushes.{course, advanced};
+ghost use Rattle.path.specs.Courses.{course, advanced};
 ghost use Rattle.refusal.specs.Limits.{mostStrokes};
 ghost use Rattle.sheet.specs.Sheets.{headerWords, wordAt, isSheet};
-ghost use Rattle.sheet_list.specs.Listing.{topFrom, digitsFrom, decimal, spaced, lineOf, linesOf, numberIn, numbersAt, listed, refusedText, mostText, textOf};
+ghost use Rattle.sheet_list.specs.Listing.{topFrom, digitsFrom, decimal, spaced, lineOf, linesOf, listed, refusedText, mostText, textOf};
+ghost use Rattle.sheet_list.specs.InnerLines.{numberIn, numbersAt};
 
 // The most bytes that are listed, and the most that their text has: three for each.
 pub const MOST_BYTES: usize = 65536;

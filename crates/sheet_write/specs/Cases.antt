@@ -15,15 +15,15 @@ abbrev pub Holds : Case → Type 0
 Holds (writes mode vertices ns ss bytes) = writeLeft mode vertices ns ss (replicate (length bytes) 9) ≡ left (accepted (length bytes ∷ [])) bytes
 
 -- the header 1, 3, 1, 4, 24, 28; the start 0; and 1 0 2 1
-abbrev pub drawn : List ℕ
-drawn =
+abbrev pub faceSheet : List ℕ
+faceSheet =
     1 ∷ 0 ∷ 0 ∷ 0 ∷ 3 ∷ 0 ∷ 0 ∷ 0 ∷ 1 ∷ 0 ∷ 0 ∷ 0 ∷ 4 ∷ 0 ∷ 0 ∷ 0 ∷ 24 ∷ 0 ∷ 0 ∷ 0 ∷ 28 ∷ 0 ∷ 0 ∷ 0
     ∷ 0 ∷ 0 ∷ 0 ∷ 0 ∷ 1 ∷ 0 ∷ 0 ∷ 0 ∷ 0 ∷ 0 ∷ 0 ∷ 0 ∷ 2 ∷ 0 ∷ 0 ∷ 0 ∷ 1 ∷ 0 ∷ 0 ∷ 0 ∷ []
 
 -- face 0 1 2 in triangles is [1,0,2,1], by the mode's number and by 0, and with empty strokes about it
 unfoldable pub paper : List Case
 paper =
-    writes 1 3 (1 ∷ 0 ∷ 2 ∷ 1 ∷ []) (0 ∷ []) drawn
-    ∷ writes 0 3 (1 ∷ 0 ∷ 2 ∷ 1 ∷ []) (0 ∷ []) drawn
-    ∷ writes 1 3 (1 ∷ 0 ∷ 2 ∷ 1 ∷ []) (0 ∷ 0 ∷ 4 ∷ []) drawn
+    writes 1 3 (1 ∷ 0 ∷ 2 ∷ 1 ∷ []) (0 ∷ []) faceSheet
+    ∷ writes 0 3 (1 ∷ 0 ∷ 2 ∷ 1 ∷ []) (0 ∷ []) faceSheet
+    ∷ writes 1 3 (1 ∷ 0 ∷ 2 ∷ 1 ∷ []) (0 ∷ 0 ∷ 4 ∷ []) faceSheet
     ∷ []

@@ -15,7 +15,7 @@ use lib.Ieee.Order.{round-mono}
 use lib.Ieee.Positive.{positive, above, positive-of-value, above-of-le, mul-at, mul-mono}
 use Rattle.vector.specs.Lengths.{zero64, one64}
 use Rattle.vector.specs.Root.{unitsOf}
-use Rattle.vector.specs.Steps.{at}
+use Rattle.vector.specs.Units.{at}
 use Rattle.vector.proofs.Roots.{lt-or-ge}
 use Rattle.vector.proofs.Patterns.{of-bits, bits-in, units-bits, units-lt, shape}
 use Rattle.vector.proofs.Order.{lt-through}

@@ -1,21 +1,22 @@
 -- A positive f64 by its pattern and by its units.
 use mathlib.Core.Path.{_≡_, refl, sym, ap, _∙_, subst}
-use mathlib.Core.Logic.{_⊎_, inl, inr, ⊎-elim}
-use mathlib.Core.Bool.{Bool, true, false, not, cond, _&&_, _||_}
+use mathlib.Core.Logic.{_⊎_, ⊎-elim}
+use mathlib.Core.Bool.{Bool, true, false, not, _&&_}
 use Prim.Native.Nat.{ℕ, zero, suc, _+_, _-_, _*_, _/_, _%_, _^_, _≤_, _<_}
-use native.Mathlib.Nat.{mul-le-mul-right, mul-div-cancel, div-lt-iff-lt-mul, le-div-iff-mul-le, mul-right-comm, mul-assoc, mul-one, one-mul, zero-mul, zero-div, mul-lt-mul-of-pos-right, mul-le-mul, mul-pos, lt-of-lt-of-le, lt-of-le-of-lt, le-trans, le-of-eq, le-of-lt, lt-of-not-le, not-le-of-lt, zero-lt-suc, div-one}
+use native.Mathlib.Nat.{mul-le-mul-right, mul-div-cancel, div-lt-iff-lt-mul, le-div-iff-mul-le, mul-right-comm, mul-one, one-mul, zero-mul, zero-div, mul-lt-mul-of-pos-right, mul-pos, lt-of-lt-of-le, le-trans, le-of-eq, not-le-of-lt, zero-lt-suc, div-one}
 use native.Mathlib.Omega.{arith}
-use lib.Dec.{T, leb, ltb, eqb, eqb→eq, leb→le, ltb→lt, lt→ltb, nltb→le, lit<, not-T}
+use lib.Dec.{T, leb, ltb, eqb, eqb→eq, leb→le, ltb→lt, lit<, not-T}
 use lib.Arith.{le→nltb, lt→nleb}
-use lib.Pow.{pow-pos, pow-add, pow-mono, pow-lt, shl-shr}
+use lib.Pow.{pow-pos, pow-lt, shl-shr}
 use lib.IntN.{ℤ, pos, negsuc}
-use lib.Ieee.{Float, nan, inf, fin, up, down, binary64, fits, ofBits, toBits, ofFields, odd, nanBits, isNan, lt, eq, prec, low, emax, size, ones, hid, top}
-use lib.Ieee.Bits.{ofBits-toBits, ofBits-fits, nanBits-above, is-true, is-false, cond-no}
+use lib.Ieee.{Float, nan, inf, fin, up, down, binary64, fits, ofBits, toBits, ofFields, odd, nanBits, isNan, lt, eq, size}
+use lib.Ieee.Bits.{ofBits-toBits, ofBits-fits, nanBits-above, is-false}
 use lib.Ieee.Digits.{size-le}
 use lib.Ieee.Exact.{HasValue, odd-sign}
 use lib.Ieee.Fits.{and-l, and-r, up-pos, down-pos, kept-lt}
 use Rattle.vector.specs.Root.{unitsOf, plain, Nearest}
-use Rattle.vector.specs.Steps.{at, unitsAt, NearestUnits}
+use Rattle.vector.specs.InnerSteps.{NearestUnits}
+use Rattle.vector.specs.Units.{at, unitsAt}
 use Rattle.vector.proofs.Roots.{shift-to, lt-or-ge}
 
 -- ---- units

@@ -1,20 +1,20 @@
 -- Numbers whose patterns are three apart have roots that are apart; so of four numbers, each below the next, the first and the last have.
 use mathlib.Core.Path.{_≡_, refl, sym, ap, _∙_, subst}
 use mathlib.Core.Logic.{_⊎_, ⊎-elim}
-use mathlib.Core.Bool.{Bool, true, false, not}
+use mathlib.Core.Bool.{Bool, true, false}
 use Prim.Native.Nat.{ℕ, zero, suc, _+_, _-_, _*_, _/_, _%_, _^_, _≤_, _<_}
-use native.Mathlib.Nat.{mul-pos, zero-mul, mul-le-mul-right, mul-lt-mul-of-pos-right, mul-right-comm, lt-of-lt-of-le, lt-of-le-of-lt, le-trans, le-of-eq, lt-of-not-le, not-le-of-lt, eq-zero-or-pos, add-le-add}
-use native.Mathlib.Numerals.{add-one}
+use native.Mathlib.Nat.{mul-pos, zero-mul, mul-le-mul-right, mul-lt-mul-of-pos-right, mul-right-comm, lt-of-le-of-lt, le-trans, le-of-eq, lt-of-not-le, not-le-of-lt, eq-zero-or-pos}
 use native.Mathlib.Omega.{arith}
-use lib.Dec.{T, ltb, lt→ltb, ltb→lt, leb, leb→le}
+use lib.Dec.{T, ltb, lt→ltb, ltb→lt}
 use lib.Pow.{pow-pos, pow-add, pow-mono}
-use lib.IntN.{ℤ, pos, negsuc}
-use lib.Ieee.{Float, nan, inf, fin, up, down, binary64, fits, ofBits, toBits, lt, eq, isNan}
+use lib.IntN.{ℤ}
+use lib.Ieee.{Float, nan, inf, fin, up, down, binary64, fits, toBits, lt, eq, isNan}
 use lib.Ieee.Bits.{is-true, ofBits-toBits}
 use lib.Ieee.Exact.{HasValue}
-use lib.Ieee.Fits.{up-pos, down-pos}
+use lib.Ieee.Fits.{down-pos}
 use Rattle.vector.specs.Root.{unitsOf, rootBits, rootOf}
-use Rattle.vector.specs.Steps.{at, unitsAt, Normal, NearestUnits}
+use Rattle.vector.specs.InnerSteps.{Normal, NearestUnits}
+use Rattle.vector.specs.Units.{at, unitsAt}
 use Rattle.vector.proofs.Roots.{lt-or-ge, root-lt, shift-to, by-even, by-odd, gap}
 use Rattle.vector.proofs.Patterns.{Above, above, is-above, nil, of-bits, beyond-no-nan, in-patterns, units-bits, units-pos, units-lt}
 use Rattle.vector.proofs.RootSearch.{at-mono, root-is, no-zero}

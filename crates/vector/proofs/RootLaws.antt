@@ -8,9 +8,9 @@ use native.Mathlib.Omega.{arith}
 use lib.Dec.{T, ltb, lt→ltb, ltb→lt, nltb→le, lit<}
 use lib.Arith.{le→nltb}
 use lib.Pow.{pow-pos}
-use lib.IntN.{ℤ, pos, negsuc}
+use lib.IntN.{ℤ}
 use lib.Ieee.{Float, nan, inf, fin, up, down, binary64, fits, ofBits, toBits, add, mul, lt, eq, isNan}
-use lib.Ieee.Bits.{is-true, is-false}
+use lib.Ieee.Bits.{is-false}
 use lib.Ieee.Exact.{HasValue}
 use lib.Ieee.Fits.{up-pos, down-pos, add-fits}
 use lib.Ieee.Nearest.{div-mono}
@@ -19,10 +19,11 @@ use Rattle.vector.specs.declared.Vector.{Vector}
 use Rattle.vector.specs.Vectors.{lengthSquaredOf}
 use Rattle.vector.specs.Lengths.{orNan, zero64, lengthOf}
 use Rattle.vector.specs.Root.{unitsOf, mid, under, rootBits, rootOf}
-use Rattle.vector.specs.Steps.{at, NearestUnits}
+use Rattle.vector.specs.InnerSteps.{NearestUnits}
+use Rattle.vector.specs.Units.{at}
 use Rattle.vector.proofs.Roots.{lt-or-ge}
-use Rattle.vector.proofs.Patterns.{nil, above, of-bits, in-patterns, level-zero, units-bits, units-pos, units-lt}
-use Rattle.vector.proofs.RootSearch.{at-mono, at-step, under-down, found, root-is, no-zero}
+use Rattle.vector.proofs.Patterns.{nil, above, of-bits, in-patterns, units-bits, units-pos, units-lt}
+use Rattle.vector.proofs.RootSearch.{at-mono, under-down, found, root-is, no-zero}
 use Rattle.vector.proofs.RootNearest.{root-of}
 use Rattle.vector.proofs.Order.{lt-through}
 

@@ -1,23 +1,22 @@
 -- `rootOf` answers as `RootOf` states, and the statement leaves one answer.
 use mathlib.Core.Path.{_≡_, refl, sym, ap, _∙_, subst}
-use mathlib.Core.Logic.{_⊎_, inl, inr, ⊎-elim}
-use mathlib.Core.Bool.{Bool, true, false, not}
-use mathlib.Core.List.{List, [], _∷_}
+use mathlib.Core.Logic.{_⊎_, ⊎-elim}
+use mathlib.Core.Bool.{Bool, true, false}
 use Prim.Native.Nat.{ℕ, zero, suc, _+_, _-_, _*_, _/_, _%_, _^_, _≤_, _<_}
 use native.Mathlib.Nat.{mul-le-mul, mul-le-mul-right, mul-lt-mul-of-pos-right, lt-of-lt-of-le, lt-irrefl, lt-trans, le-trans, le-of-eq, not-le-of-lt, eq-zero-or-pos, eq-or-lt-of-le, lt-of-not-le}
 use native.Mathlib.Omega.{arith}
 use lib.Dec.{T, leb, leb→le, le→leb}
 use lib.Pow.{pow-pos, pow-add}
-use lib.IntN.{ℤ, pos, negsuc}
 use lib.Ieee.{Float, nan, inf, fin, binary64, fits, ofBits, size, toBits}
 use lib.Ieee.Bits.{ofBits-toBits}
 use lib.Ieee.Digits.{size-lt, size-le, size-reaches}
-use Rattle.refusal.specs.Said.{Said, accepted}
+use Rattle.refusal.specs.Said.{Said}
 use Rattle.refusal.specs.One.{One}
 use Rattle.vector.specs.Root.{unitsOf, plain, greatest, rootOf, Nearest, RootOf}
-use Rattle.vector.specs.Steps.{at, Digits, Normal, NearestUnits}
+use Rattle.vector.specs.InnerSteps.{Digits, Normal, NearestUnits}
+use Rattle.vector.specs.Units.{at}
 use Rattle.vector.proofs.Roots.{lt-or-ge, shift-to, normal, at-low, by-even, by-odd}
-use Rattle.vector.proofs.Patterns.{Above, above, nearest, in-patterns}
+use Rattle.vector.proofs.Patterns.{above, nearest, in-patterns}
 use Rattle.vector.proofs.RootSearch.{search-is, worked, root}
 
 -- ---- there is a nearest one

@@ -1,8 +1,8 @@
 -- `rootOf` finds the nearest f64, and what the branches of `sqrt` answer is what `rootOf` works out.
 use mathlib.Core.Path.{_≡_, refl, sym, ap, subst}
-use mathlib.Core.Logic.{_⊎_, inl, inr, ⊎-elim}
+use mathlib.Core.Logic.{_⊎_, ⊎-elim}
 use mathlib.Core.Bool.{Bool, true, false, not, cond, _||_}
-use mathlib.Core.List.{List, [], _∷_}
+use mathlib.Core.List.{[], _∷_}
 use Prim.Native.Nat.{ℕ, zero, suc, _+_, _-_, _*_, _/_, _%_, _^_, _≤_, _<_}
 use native.Mathlib.Nat.{zero-lt-suc, add-le-add, mul-pos, mul-le-mul, mul-le-mul-right, lt-irrefl, lt-of-le-of-lt, le-trans, le-of-lt, le-refl, lt-trans, not-le-of-lt, mul-one, eq-or-lt-of-le}
 use native.Mathlib.Numerals.{add-one}
@@ -10,13 +10,14 @@ use native.Mathlib.Decide.{le-ind}
 use native.Mathlib.Omega.{arith}
 use lib.Dec.{T, eqb, eqb→eq, nltb→le, ltb, ltb→lt, lt→ltb, lit≤}
 use lib.Pow.{pow-pos}
-use lib.IntN.{ℤ, pos, negsuc}
+use lib.IntN.{ℤ}
 use lib.Ieee.{Float, nan, inf, fin, binary64, fits, ofBits, toBits, lt, eq, up, down}
 use lib.Ieee.Fits.{and-l, up-pos}
 use Rattle.refusal.specs.Said.{Said, accepted, refused}
 use Rattle.refusal.specs.declared.Refusal.the-variants.{Number}
 use Rattle.vector.specs.Root.{unitsOf, mid, under, greatest, rootBits, rootOf}
-use Rattle.vector.specs.Steps.{at, unitsAt, NearestUnits}
+use Rattle.vector.specs.InnerSteps.{NearestUnits}
+use Rattle.vector.specs.Units.{at, unitsAt}
 use Rattle.vector.proofs.Roots.{lt-or-ge}
 use Rattle.vector.proofs.Patterns.{Above, above, nil, some, level-zero, units-bits, units-pos, units-lt}
 

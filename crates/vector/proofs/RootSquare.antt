@@ -1,9 +1,9 @@
 -- The root of a square, worked out in f64, is the number that was squared, where the square neither overflows nor loses digits.
 use mathlib.Core.Path.{_≡_, refl, sym, ap, _∙_, subst}
 use mathlib.Core.Logic.{_⊎_, ⊎-elim}
-use mathlib.Core.Bool.{Bool, true, false, not}
+use mathlib.Core.Bool.{true, false, not}
 use Prim.Native.Nat.{ℕ, zero, suc, _+_, _-_, _*_, _/_, _%_, _^_, _≤_, _<_, compare, Ordering, Ordering·lt, Ordering·eq, Ordering·gt}
-use native.Mathlib.Nat.{mul-assoc, mul-comm, mul-pos, mul-le-mul, mul-le-mul-left, mul-le-mul-right, mul-lt-mul-of-pos-right, mul-mul-mul-comm, mul-div-cancel, div-add-mod', mod-lt, lt-of-lt-of-le, lt-of-le-of-lt, le-trans, le-of-eq, le-of-lt, lt-of-not-le, not-le-of-lt, mul-one, zero-lt-suc, eq-or-lt-of-le}
+use native.Mathlib.Nat.{mul-assoc, mul-pos, mul-le-mul, mul-le-mul-left, mul-le-mul-right, mul-lt-mul-of-pos-right, mul-mul-mul-comm, mul-div-cancel, div-add-mod', mod-lt, lt-of-lt-of-le, lt-of-le-of-lt, le-trans, le-of-eq, le-of-lt, lt-of-not-le, not-le-of-lt, mul-one, zero-lt-suc, eq-or-lt-of-le}
 use native.Mathlib.Omega.{arith}
 use lib.Dec.{T, lt→ltb, lit≤, isLe, isEq, eqb, leb→le, nleb→lt, eqb→eq, eqb-refl}
 use lib.Arith.{lt-of-le-ne}
@@ -19,8 +19,9 @@ use Rattle.vector.proofs.Roots.{lt-or-ge, shift-to, up, dn, sq-lt, at-h
 use Rattle.vector.proofs.Patterns.{Above, above, of-bits, units-val}
 use Rattle.vector.proofs.RootSearch.{root-is}
 use Rattle.vector.proofs.RootLaws.{rooted}
-use Rattle.vector.specs.Root.{unitsOf, rootBits, rootOf}
-use Rattle.vector.specs.Steps.{at, NearestUnits}
+use Rattle.vector.specs.Root.{rootBits, rootOf}
+use Rattle.vector.specs.InnerSteps.{NearestUnits}
+use Rattle.vector.specs.Units.{at}
 
 -- ---- to the nearest whole number: off by a half at most
 abbrev Cmp : Ordering → ℕ → ℕ → Type 0

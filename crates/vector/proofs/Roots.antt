@@ -2,12 +2,13 @@
 use mathlib.Core.Path.{_≡_, refl, sym, ap, _∙_, subst}
 use mathlib.Core.Logic.{_⊎_, inl, inr, ⊎-elim}
 use lib.Dec.{T, ltb, ltb→lt, nltb→le, lit<, lit≤}
-use mathlib.Core.Bool.{Bool, true, false, not, cond}
+use mathlib.Core.Bool.{Bool, true, false, not}
 use Prim.Native.Nat.{ℕ, zero, suc, _+_, _-_, _*_, _/_, _%_, _^_, _≤_, _<_}
-use native.Mathlib.Nat.{eq-or-lt-of-le, le-of-lt, lt-of-mul-lt-mul-right, mul-le-mul, mul-mul-mul-comm, not-le-of-lt, mul-pos, mul-lt-mul-of-pos-left, pow-suc, mul-comm, mul-assoc, lt-of-not-le, lt-irrefl, lt-of-le-of-lt, lt-of-lt-of-le, le-trans, le-of-eq, one-mul, mul-le-mul-left, mul-le-mul-right, mul-lt-mul-of-pos-right, mul-one, div-add-mod, mod-lt}
+use native.Mathlib.Nat.{eq-or-lt-of-le, le-of-lt, lt-of-mul-lt-mul-right, mul-le-mul, mul-mul-mul-comm, not-le-of-lt, mul-pos, mul-assoc, lt-of-not-le, lt-irrefl, lt-of-le-of-lt, lt-of-lt-of-le, le-trans, le-of-eq, one-mul, mul-le-mul-left, mul-le-mul-right, mul-lt-mul-of-pos-right, mul-one, div-add-mod, mod-lt}
 use native.Mathlib.Omega.{arith}
 use lib.Pow.{pow-pos, pow-add, pow-mono}
-use Rattle.vector.specs.Steps.{Digits, Normal, NearestUnits, at}
+use Rattle.vector.specs.InnerSteps.{Digits, Normal, NearestUnits}
+use Rattle.vector.specs.Units.{at}
 
 pub lt-or-ge : (a b : ℕ) → (a < b) ⊎ (b ≤ a)
 lt-or-ge a b = go (ltb a b) (ltb→lt a b) (nltb→le a b)

@@ -2,7 +2,8 @@ pub mod Vectors
 pub mod Answers
 pub mod Floor
 pub mod Root
-pub mod Steps
+pub mod Units
+pub mod InnerSteps
 pub mod Abs
 pub mod Lengths
 pub mod Matrices

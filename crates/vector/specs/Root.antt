@@ -1,13 +1,13 @@
 -- The square root: the nearest f64.
 use mathlib.Core.Path.{_≡_}
 use mathlib.Core.Bool.{Bool, true, false, cond}
-use mathlib.Core.List.{List, [], _∷_}
-use Prim.Native.Nat.{ℕ, zero, suc, _+_, _-_, _*_, _/_, _%_, _^_, _<_}
+use mathlib.Core.List.{[], _∷_}
+use Prim.Native.Nat.{ℕ, zero, suc, _+_, _-_, _*_, _/_, _^_, _<_}
 use lib.Dec.{T, ltb}
 use lib.Ieee.{Float, nan, inf, fin, up, down, binary64, fits, ofBits}
 use Rattle.refusal.specs.Said.{Said, accepted, refused}
 use Rattle.refusal.specs.declared.Refusal.the-variants.{Number}
-use Rattle.vector.specs.Steps.{at}
+use Rattle.vector.specs.Units.{at}
 
 -- ---- what the nearest is
 

@@ -8,7 +8,8 @@ ghost use mathlib.Core.Bool.{true};
 ghost use lib.Ieee.{binary64, lt, mul};
 ghost use Rattle.vector.specs.Root.{rootOf};
 ghost use Rattle.vector.specs.Lengths.{orNan};
-ghost use Rattle.vector.specs.Steps.{at, Digits, Normal, NearestUnits};
+ghost use Rattle.vector.specs.InnerSteps.{Digits, Normal, NearestUnits};
+ghost use Rattle.vector.specs.Units.{at};
 ghost use Rattle.vector.specs.Abs.{absOf};
 
 // A whole number, or the refusal.

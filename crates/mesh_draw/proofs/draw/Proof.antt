@@ -3,7 +3,7 @@ use borrow.Author.Needs.{needs}
 use mathlib.Core.Path.{sym, _∙_}
 use Rattle.refusal.proofs.Outcomes.{accept, refuse}
 use Rattle.mesh_draw.specs.Call.{drawLeft}
-use Rattle.mesh_draw.proofs.Draws.{granted, drawn}
+use Rattle.mesh_draw.proofs.Draws.{granted, drawing-left}
 use Rattle.mesh_draw.proofs.draw.Statement.{statement}
 use Rattle.mesh_draw.proofs.draw.Tie as tie
 
@@ -45,7 +45,7 @@ returns-2 c =
     let z = sym (c .before .before .before .before .before .before .before .before .before .before .before .before .before .before .before .before .draw-verdict .ensures) ∙ c .before .before .before .before .before .before .before .before .before .before .before .before .before .before .enum-told .given .1 in
     accept _ _ _ z
     (c .before .before .before .before .before .before .before .before .draw-strokes .ensures
-    ∙ drawn (a .vertices .now) (a .indices .now) (a .flips .now) _ _ (a .eye) (a .tolerance) (a .scratch .now) (a .seen .now) (a .out-points .now) (a .out-starts .now) (c .before .before .before .before .before .before .before .before .before .before .before .before .before .mode-named .ensures)
+    ∙ drawing-left (a .vertices .now) (a .indices .now) (a .flips .now) _ _ (a .eye) (a .tolerance) (a .scratch .now) (a .seen .now) (a .out-points .now) (a .out-starts .now) (c .before .before .before .before .before .before .before .before .before .before .before .before .before .mode-named .ensures)
     (granted (a .vertices .now) (a .indices .now) _ _ _ z))
 
 pub draw-spec : {M : Type 1} → statement M

@@ -4,7 +4,7 @@ use native.Mathlib.Omega.{arith}
 use mathlib.Core.Path.{_≡_, sym, _∙_, refl}
 use Prim.Native.Nat.{_+_, _-_, _*_, _<_, _≤_}
 use lib.ListN.{length, getD}
-use Rattle.mesh_edges.specs.Words.{pairIn}
+use Rattle.mesh_edges.specs.InnerWords.{pairIn}
 use Rattle.mesh_edges.proofs.Ends.{from, from-more, from-stop, from-all, end-from}
 use borrow.Author.Needs.{needs}
 use Rattle.mesh_edges.proofs.group_end.Statement.{statement}

@@ -6,7 +6,7 @@ use Prim.Native.Nat.{_-_, _*_, _≤_}
 use lib.ListN.{length, drop}
 use Rattle.order.specs.Regions.{region, Into}
 use Rattle.mesh_edges.specs.Edges.{groupsOf}
-use Rattle.mesh_edges.specs.Words.{pairIn}
+use Rattle.mesh_edges.specs.InnerWords.{pairIn}
 use Rattle.mesh_edges.specs.InnerSteps.{marks}
 use Rattle.mesh_edges.proofs.Mating.{mating, m-below, end-after, end-within, mating-more, mating-all}
 use borrow.Author.Needs.{needs}

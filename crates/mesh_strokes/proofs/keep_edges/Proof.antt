@@ -2,23 +2,22 @@
 -- before place p (`Went`); the sides that are left fall.
 use borrow.Author.Needs.{needs}
 use native.Mathlib.Omega.{arith}
-use mathlib.Core.Path.{_≡_, refl, sym, ap, _∙_}
+use mathlib.Core.Path.{_≡_, refl, _∙_}
 use mathlib.Core.List.{List}
-use Prim.Native.Nat.{ℕ, _+_, _-_, _*_, _<_, _≤_}
-use lib.ListN.{length, getD, take}
+use Prim.Native.Nat.{ℕ, _-_, _*_, _≤_}
+use lib.ListN.{length, take}
 use Rattle.order.specs.Regions.{region}
-use Rattle.mesh_edges.specs.Words.{wordsOf}
+use Rattle.mesh_edges.specs.InnerWords.{sideWords}
 use Rattle.mesh_keep.specs.Keep.{seenIn}
 use Rattle.mesh_strokes.specs.Draw.{kept}
-use Rattle.mesh_strokes.specs.InnerWalk.{Room}
-use Rattle.mesh_strokes.proofs.Walks.{Went, went-none, went-all, Next, next, turn-low, turn-high, turn-below, room-same}
+use Rattle.mesh_strokes.proofs.Walks.{Went, went-none, went-all, next, turn-low, turn-high, turn-below, room-same}
 use Rattle.mesh_strokes.proofs.keep_edges.Statement.{statement}
 use Rattle.mesh_strokes.proofs.keep_edges.Tie as tie
 
 abbrev Inv-loop : tie.InvT-loop
 Inv-loop mode seen indices s₀ tolerance p₀ m₀ s p m =
     (p ≤ length indices) × (m ≤ p) × (length s ≡ length s₀) × (take (5 * length indices) s ≡ take (5 * length indices) s₀)
-    × ((flips : List ℕ) → take (5 * length indices) s₀ ≡ wordsOf indices flips → Went (kept mode (seenIn seen) flips tolerance) indices (region s (5 * length indices) (2 * m)) p)
+    × ((flips : List ℕ) → take (5 * length indices) s₀ ≡ sideWords indices flips → Went (kept mode (seenIn seen) flips tolerance) indices (region s (5 * length indices) (2 * m)) p)
 
 abbrev μ-loop : tie.MeasureT-loop
 μ-loop mode seen indices s₀ tolerance p₀ m₀ s p m = length indices - p

@@ -1,7 +1,7 @@
 -- `list_edges` meets its contract.
 use borrow.Author.Needs.{needs}
 use mathlib.Core.Path.{ap, _∙_}
-use Rattle.mesh_edges.specs.Words.{edgesIn}
+use Rattle.mesh_edges.specs.InnerWords.{edgesIn}
 use Rattle.mesh_strokes.proofs.Seens.{flips-needed, flips-spared}
 use Rattle.mesh_strokes.proofs.list_edges.Statement.{statement}
 use Rattle.mesh_strokes.proofs.list_edges.Tie as tie

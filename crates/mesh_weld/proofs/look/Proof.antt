@@ -1,12 +1,12 @@
 -- `look` meets its contract. The loop keeps: what is in one of the eight coarse cells is scored already, or ahead on the way of that cell; and
 -- the number kept is the least of what is scored. Each turn leaves fewer vertices that may still come on the ways.
-use mathlib.Core.Path.{_≡_, sym, ap, _∙_, subst}
+use mathlib.Core.Path.{sym, _∙_, subst}
 use mathlib.Core.List.{List, map}
 use Prim.Native.Nat.{ℕ, _+_, _-_, _*_, _/_, _<_}
 use native.Mathlib.Omega.{arith}
 use Rattle.mesh_weld.specs.declared.Cube.{Cube}
 use Rattle.mesh_weld.specs.declared.Way.{Way}
-use Rattle.mesh_weld.specs.InnerTable.{scoreAt, onwardOf, wayOf, allWorth, listed, eightFrom, top, About}
+use Rattle.mesh_weld.specs.InnerTable.{scoreAt, onwardOf, allWays, eightFrom, top, About}
 use Rattle.mesh_weld.proofs.Coarse.{in-eight}
 use Rattle.mesh_weld.proofs.Walks.{Looked, looked-start, looked-on, looked-end, walks-few, lefts, lefts-less}
 use Rattle.mesh_weld.proofs.look.Statement.{statement}
@@ -17,10 +17,10 @@ abbrev homes : Cube → List Cube
 homes c = eightFrom ((c .x - 1) / 2) ((c .y - 1) / 2) ((c .z - 1) / 2)
 
 abbrev Inv-loop : tie.InvT-loop
-Inv-loop vertices scratch g p c best₀ w₀ best w = Looked vertices scratch (scoreAt vertices p c) (g .buckets) (g .count) (homes c) top best (listed w)
+Inv-loop vertices scratch g p c best₀ w₀ best w = Looked vertices scratch (scoreAt vertices p c) (g .buckets) (g .count) (homes c) top best (allWays w)
 
 abbrev μ-loop : tie.MeasureT-loop
-μ-loop vertices scratch g p c best₀ w₀ best w = lefts vertices scratch (scoreAt vertices p c) (g .buckets) (g .count) (listed w)
+μ-loop vertices scratch g p c best₀ w₀ best w = lefts vertices scratch (scoreAt vertices p c) (g .buckets) (g .count) (allWays w)
 
 sub-all-begin : tie.Need-sub-all-begin Inv-loop μ-loop
 sub-all-begin c = omega (arith, c .before .before .before .pre .1 .0 .x-low)
@@ -69,7 +69,7 @@ loop-less c =
     let s = c .before .before .before .before .before .before .before .before .before .before .before in
     let a = s .args in
     let l = c .before .before .before .before .loop in
-    subst (λ (ws : List Way). lefts (a .vertices .now) (a .scratch .now) (scoreAt (a .vertices .now) (a .p) (a .c)) (a .g .buckets) (a .g .count) ws < lefts (a .vertices .now) (a .scratch .now) (scoreAt (a .vertices .now) (a .p) (a .c)) (a .g .buckets) (a .g .count) (listed (l .w))) (sym (c .before .all-onward .ensures))
+    subst (λ (ws : List Way). lefts (a .vertices .now) (a .scratch .now) (scoreAt (a .vertices .now) (a .p) (a .c)) (a .g .buckets) (a .g .count) ws < lefts (a .vertices .now) (a .scratch .now) (scoreAt (a .vertices .now) (a .p) (a .c)) (a .g .buckets) (a .g .count) (allWays (l .w))) (sym (c .before .all-onward .ensures))
     (lefts-less (a .vertices .now) (a .scratch .now) (scoreAt (a .vertices .now) (a .p) (a .c)) (a .g .buckets) (a .g .count) (s .pre .0 .table .older) (l .best) (l .inv .walks) (λ e. c .before .before .if1 .taken (c .before .before .before .ahead .ensures ∙ e)))
 
 loop-again : tie.Need-loop-again Inv-loop μ-loop
@@ -78,8 +78,8 @@ loop-again c =
     let a = s .args in
     let l = c .before .before .before .before .loop in
     subst (Looked (a .vertices .now) (a .scratch .now) (scoreAt (a .vertices .now) (a .p) (a .c)) (a .g .buckets) (a .g .count) (homes (a .c)) top (c .best-of .result)) (sym (c .before .all-onward .ensures))
-    (subst (λ (r : ℕ). Looked (a .vertices .now) (a .scratch .now) (scoreAt (a .vertices .now) (a .p) (a .c)) (a .g .buckets) (a .g .count) (homes (a .c)) top r (map (onwardOf (a .scratch .now) (a .g .buckets)) (listed (l .w)))) (sym (c .best-of .ensures))
-    (looked-on (a .vertices .now) (a .scratch .now) (scoreAt (a .vertices .now) (a .p) (a .c)) (a .g .buckets) (a .g .count) (s .pre .0 .table .older) (homes (a .c)) top (l .best) (listed (l .w)) (l .inv)))
+    (subst (λ (r : ℕ). Looked (a .vertices .now) (a .scratch .now) (scoreAt (a .vertices .now) (a .p) (a .c)) (a .g .buckets) (a .g .count) (homes (a .c)) top r (map (onwardOf (a .scratch .now) (a .g .buckets)) (allWays (l .w)))) (sym (c .best-of .ensures))
+    (looked-on (a .vertices .now) (a .scratch .now) (scoreAt (a .vertices .now) (a .p) (a .c)) (a .g .buckets) (a .g .count) (s .pre .0 .table .older) (homes (a .c)) top (l .best) (allWays (l .w)) (l .inv)))
 
 returns : tie.Need-returns Inv-loop μ-loop
 returns c =
@@ -87,7 +87,7 @@ returns c =
     let a = s .args in
     let l = c .before .before .loop in
     let n = s .pre .1 .0 in
-    looked-end (a .vertices .now) (a .scratch .now) (scoreAt (a .vertices .now) (a .p) (a .c)) (a .g .buckets) (a .g .count) (homes (a .c)) top (l .best) (listed (l .w)) (l .inv) (sym (c .before .ahead .ensures) ∙ c .if1 .left) (About (a .vertices .now) (a .c))
+    looked-end (a .vertices .now) (a .scratch .now) (scoreAt (a .vertices .now) (a .p) (a .c)) (a .g .buckets) (a .g .count) (homes (a .c)) top (l .best) (allWays (l .w)) (l .inv) (sym (c .before .ahead .ensures) ∙ c .if1 .left) (About (a .vertices .now) (a .c))
     (λ i h. in-eight (a .vertices .now) (a .c) i (n .x-low) (n .y-low) (n .z-low) h)
 
 pub look-spec : {M : Type 1} → statement M

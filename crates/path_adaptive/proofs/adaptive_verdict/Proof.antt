@@ -4,7 +4,7 @@ use Rattle.refusal.specs.Limits.{mostPoints}
 use Rattle.path_adaptive.specs.declared.View.{View}
 use Rattle.path_adaptive.specs.declared.Tally.the-variants.{Left}
 use Rattle.path_adaptive.specs.Walk.{walksOf}
-use Rattle.path_adaptive.specs.Call.{pointRoom, adaptiveVerdict}
+use Rattle.path_adaptive.specs.Call.{pointRoom, verdictOf}
 use Rattle.path_adaptive.specs.Tally.{spentAll, verdictBy}
 use Prim.Native.Nat.{_/_}
 use native.Mathlib.Omega.{arith}
@@ -19,28 +19,28 @@ shaped-requires : tie.Need-shaped-requires
 shaped-requires c κs = search needs
 
 returns : tie.Need-returns
-unfolding adaptiveVerdict unless
+unfolding verdictOf unless
 returns c = simp (sym (c .before .shaped .ensures) ∙ not-true _ (c .if1 .taken))
 
 counted-requires : tie.Need-counted-requires
 counted-requires c κs = search needs
 
 returns-2 : tie.Need-returns-2
-unfolding adaptiveVerdict unless
+unfolding verdictOf unless
 returns-2 c = simp (sym (c .before .before .before .shaped .ensures) ∙ not-false _ (c .before .before .if1 .left), sym (c .before .counted .ensures) ∙ not-true _ (c .if2 .taken))
 
 coordinates-good-requires : tie.Need-coordinates-good-requires
 coordinates-good-requires c κs = search needs
 
 returns-3 : tie.Need-returns-3
-unfolding adaptiveVerdict unless
+unfolding verdictOf unless
 returns-3 c = simp (sym (c .before .before .before .before .before .shaped .ensures) ∙ not-false _ (c .before .before .before .before .if1 .left), sym (c .before .before .before .counted .ensures) ∙ not-false _ (c .before .before .if2 .left), sym (c .before .coordinates-good .ensures) ∙ not-true _ (c .if3 .taken))
 
 numbers-good-requires : tie.Need-numbers-good-requires
 numbers-good-requires c κs = search needs
 
 returns-4 : tie.Need-returns-4
-unfolding adaptiveVerdict unless
+unfolding verdictOf unless
 returns-4 c = simp (sym (c .before .before .before .before .before .before .before .shaped .ensures) ∙ not-false _ (c .before .before .before .before .before .before .if1 .left), sym (c .before .before .before .before .before .counted .ensures) ∙ not-false _ (c .before .before .before .before .if2 .left), sym (c .before .before .before .coordinates-good .ensures) ∙ not-false _ (c .before .before .if3 .left), sym (c .before .numbers-good .ensures) ∙ not-true _ (c .if4 .taken))
 
 view-of-requires : tie.Need-view-of-requires
@@ -57,7 +57,7 @@ verdict-of-requires : tie.Need-verdict-of-requires
 verdict-of-requires c κs = search needs
 
 returns-5 : tie.Need-returns-5
-unfolding adaptiveVerdict unless
+unfolding verdictOf unless
 returns-5 c =
     let a = c .before .before .before .before .before .before .before .before .before .before .before .before .before .before .args in
     let t = Left (c .before .before .point-room .result) (a .start-room) in

@@ -1,6 +1,6 @@
 -- `chop_verdict` meets its contract.
 use Rattle.refusal.specs.Refusals.{unless}
-use Rattle.path_chop.specs.Call.{chopVerdict}
+use Rattle.path_chop.specs.Call.{verdictOf}
 use borrow.Author.Tests.{not-true, not-false}
 use mathlib.Core.Path.{sym, _∙_}
 use borrow.Author.Needs.{needs}
@@ -11,39 +11,39 @@ shaped-requires : tie.Need-shaped-requires
 shaped-requires c κs = search needs
 
 returns : tie.Need-returns
-unfolding chopVerdict unless
+unfolding verdictOf unless
 returns c = simp (sym (c .before .shaped .ensures) ∙ not-true _ (c .if1 .taken))
 
 counted-requires : tie.Need-counted-requires
 counted-requires c κs = search needs
 
 returns-2 : tie.Need-returns-2
-unfolding chopVerdict unless
+unfolding verdictOf unless
 returns-2 c = simp (sym (c .before .before .before .shaped .ensures) ∙ not-false _ (c .before .before .if1 .left), sym (c .before .counted .ensures) ∙ not-true _ (c .if2 .taken))
 
 coordinates-good-requires : tie.Need-coordinates-good-requires
 coordinates-good-requires c κs = search needs
 
 returns-3 : tie.Need-returns-3
-unfolding chopVerdict unless
+unfolding verdictOf unless
 returns-3 c = simp (sym (c .before .before .before .before .before .shaped .ensures) ∙ not-false _ (c .before .before .before .before .if1 .left), sym (c .before .before .before .counted .ensures) ∙ not-false _ (c .before .before .if2 .left), sym (c .before .coordinates-good .ensures) ∙ not-true _ (c .if3 .taken))
 
 step-good-requires : tie.Need-step-good-requires
 step-good-requires c κs = search needs
 
 returns-4 : tie.Need-returns-4
-unfolding chopVerdict unless
+unfolding verdictOf unless
 returns-4 c = simp (sym (c .before .before .before .before .before .before .before .shaped .ensures) ∙ not-false _ (c .before .before .before .before .before .before .if1 .left), sym (c .before .before .before .before .before .counted .ensures) ∙ not-false _ (c .before .before .before .before .if2 .left), sym (c .before .before .before .coordinates-good .ensures) ∙ not-false _ (c .before .before .if3 .left), sym (c .before .step-good .ensures) ∙ not-true _ (c .if4 .taken))
 
 fits-requires : tie.Need-fits-requires
 fits-requires c κs = search needs
 
 returns-5 : tie.Need-returns-5
-unfolding chopVerdict unless
+unfolding verdictOf unless
 returns-5 c = simp (sym (c .before .before .before .before .before .before .before .before .before .shaped .ensures) ∙ not-false _ (c .before .before .before .before .before .before .before .before .if1 .left), sym (c .before .before .before .before .before .before .before .counted .ensures) ∙ not-false _ (c .before .before .before .before .before .before .if2 .left), sym (c .before .before .before .before .before .coordinates-good .ensures) ∙ not-false _ (c .before .before .before .before .if3 .left), sym (c .before .before .before .step-good .ensures) ∙ not-false _ (c .before .before .if4 .left), sym (c .before .fits2 .ensures) ∙ not-true _ (c .if5 .taken))
 
 returns-6 : tie.Need-returns-6
-unfolding chopVerdict unless
+unfolding verdictOf unless
 returns-6 c = simp (sym (c .before .before .before .before .before .before .before .before .before .shaped .ensures) ∙ not-false _ (c .before .before .before .before .before .before .before .before .if1 .left), sym (c .before .before .before .before .before .before .before .counted .ensures) ∙ not-false _ (c .before .before .before .before .before .before .if2 .left), sym (c .before .before .before .before .before .coordinates-good .ensures) ∙ not-false _ (c .before .before .before .before .if3 .left), sym (c .before .before .before .step-good .ensures) ∙ not-false _ (c .before .before .if4 .left), sym (c .before .fits2 .ensures) ∙ not-false _ (c .if5 .left))
 
 pub chop-verdict-spec : {M : Type 1} → statement M

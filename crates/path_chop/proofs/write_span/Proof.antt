@@ -1,6 +1,6 @@
 -- `write_span` meets its contract.
 use Rattle.path_chop.proofs.Chops.{span-length, span-at, span-ink}
-use Rattle.path.specs.InnerPushes.{course}
+use Rattle.path.specs.Courses.{course}
 use native.Mathlib.Omega.{arith}
 use borrow.Author.Needs.{needs}
 use Rattle.path_chop.proofs.write_span.Statement.{statement}

@@ -6,9 +6,10 @@ use Rattle.vector.specs.declared.Vector.{Vector}
 use Rattle.vector.specs.Vectors.{subOf}
 use Rattle.vector.specs.Lengths.{lengthOf}
 use Rattle.path.specs.Strokes.{pointAt, gather}
-use Rattle.path.specs.InnerPushes.{putPoints, course, advanced, out}
+use Rattle.path.specs.InnerPushes.{putPoints, out}
+use Rattle.path.specs.Courses.{course, advanced}
 use Rattle.path_chop.specs.Chop.{tooMany, spans}
-use Rattle.path_chop.specs.InnerCounts.{reachOf}
+use Rattle.path_chop.specs.InnerCounts.{lengthOrStep}
 use lib.ListN.{length}
 use Prim.Native.Nat.{_-_}
 use native.Mathlib.Omega.{arith}
@@ -19,7 +20,7 @@ use Rattle.path_chop.proofs.write_spans.Tie as tie
 abbrev Inv-loop : tie.InvT-loop
 Inv-loop points i e step out₀ at j₀ o₀ p₀ v₀ l₀ out j o p v l =
     (length out ≡ length out₀) × (advanced putPoints (course out o) (spans tooMany step p (gather (pointAt points) j (e - j))) ≡ advanced putPoints (course out₀ at) (spans tooMany step p₀ (gather (pointAt points) i (e - i))))
-    × (v ≡ subOf (pointAt points j) p) × (l ≡ reachOf step (lengthOf v))
+    × (v ≡ subOf (pointAt points j) p) × (l ≡ lengthOrStep step (lengthOf v))
 
 abbrev μ-loop : tie.MeasureT-loop
 μ-loop points i e step out₀ at j₀ o₀ p₀ v₀ l₀ out j o p v l = e - j

@@ -4,7 +4,8 @@ use Rattle.vector.specs.Vectors.{addOf}
 use borrow.Author.Needs.{needs}
 use Rattle.path_chop.proofs.Chops.{steps-turn, steps-room, steps-halt, steps-end}
 use mathlib.Core.List.{map}
-use Rattle.path.specs.InnerPushes.{putPoints, course, advanced, out}
+use Rattle.path.specs.InnerPushes.{putPoints, out}
+use Rattle.path.specs.Courses.{course, advanced}
 use Rattle.path_chop.specs.Chop.{tooMany, along, stepsOf}
 use lib.ListN.{length}
 use Prim.Native.Nat.{_-_, _≤_}

@@ -42,7 +42,7 @@ use denote.Triple.Table.{entered, cited}
 use denote.Triple.Walked.{says, Stays, stay-none, walkOf, goes-none, Walks, ends-at, walked, walk-meets}
 use denote.Exit.{yes}
 use denote.Triple.Clauses.{ensured, lasts}
-use Rattle.path_reader.specs.Reading.{after}
+use Rattle.path_reader.specs.Reading.{strokeAfter}
 use Rattle.path_reader.specs.declared.Reader.{Reader}
 use Rattle.path_reader.proofs.Reader as T
 use Rattle.path_reader.proofs.Reader.Laws as T′
@@ -76,7 +76,7 @@ module _ {M : Type 1} (𝓤 : URA M) (H : Heap 𝓤) (A : Atoms 𝓤) (W : Given
   v = sliceVal (d .starts .ptr) (length (d .starts .now))
 
   abbrev found : ℕ
-  found = after (now (d .starts)) (d .at)
+  found = strokeAfter (now (d .starts)) (d .at)
 
   abbrev Post : Val → SProp 𝓤
   Post = walkOf 𝓤 H A res.ended stayed (res.clauses 𝓤 H A mem run) .post (((κ, tt), (q, tt), tt, (d, tt), (mach ∷ [], tt)), tt)

@@ -9,7 +9,7 @@ use native.Mathlib.Nat.{add-zero}
 use lib.ListN.{length, take, drop}
 use Rattle.path.specs.Strokes.{pointAt}
 use Rattle.path.specs.InnerPushes.{putPoints}
-use Rattle.path_simplify.specs.InnerNotes.{count, thinAt}
+use Rattle.path_simplify.specs.InnerNotes.{countNoted, thinAt}
 use Rattle.path_simplify.proofs.Notes.{lay-turn, lay-end}
 use Rattle.path_simplify.proofs.lay.Statement.{statement}
 use Rattle.path_simplify.proofs.lay.Tie as tie
@@ -57,7 +57,7 @@ loop-again c =
     let a = c .before .before .before .before .before .before .before .before .before .before .before .args in (
       omega arith,
       cc,
-      lay-turn (pointAt (a .points .now)) (a .kept .now) (count (a .kept .now)) (l .loop .i) (a .at) (l .loop .out) (c .before .before .before .before .before .before .loop-test .taken) (omega (arith, c .before .before .before .before .before .before .before .before .before .before .before .pre)) _ _ (c .before .before .before .point-at .ensures) (c .before .before .put-point .ensures)
+      lay-turn (pointAt (a .points .now)) (a .kept .now) (countNoted (a .kept .now)) (l .loop .i) (a .at) (l .loop .out) (c .before .before .before .before .before .before .loop-test .taken) (omega (arith, c .before .before .before .before .before .before .before .before .before .before .before .pre)) _ _ (c .before .before .before .point-at .ensures) (c .before .before .put-point .ensures)
           ∙ l .loop .inv .2,
     )
 
@@ -68,7 +68,7 @@ returns : tie.Need-returns Inv-loop μ-loop
 unfolding thinAt
 returns c =
     let a = c .before .before .before .before .before .args in
-    sym (lay-end (pointAt (a .points .now)) (a .kept .now) (count (a .kept .now)) (c .before .loop .i) (a .at) (c .before .loop .out) (c .loop-test .left)) ∙ c .before .loop .inv .2
+    sym (lay-end (pointAt (a .points .now)) (a .kept .now) (countNoted (a .kept .now)) (c .before .loop .i) (a .at) (c .before .loop .out) (c .loop-test .left)) ∙ c .before .loop .inv .2
 
 pub lay-spec : {M : Type 1} → statement M
 lay-spec =

@@ -4,7 +4,7 @@ use Rattle.path.proofs.Pushes.{push-none, push-course}
 use Rattle.path.specs.Strokes.{pointAt}
 use Rattle.path.specs.InnerPushes.{putPoints, out}
 use Rattle.path_simplify.specs.Simplify.{Thin}
-use Rattle.path_simplify.specs.InnerSquares.{placeOf}
+use Rattle.path_simplify.specs.InnerSquares.{placesIn}
 use lib.ListN.{length}
 use native.Mathlib.Omega.{arith}
 use mathlib.Core.Path.{sym, ap}
@@ -45,7 +45,7 @@ returns-2 c =
     let at = pointAt (a .points .now) in
     let t = c .before .before .before .before .write-thinned .ensures in (
       rw (c .before .before .before .before .before .before .before .before .before .put-number .ensures)
-          (push-course putPoints (out (a .out-points .now) (a .out-starts .now) (placeOf (a .w))) _ (omega (arith, thinned-length (a .threshold) at (a .a) (a .e) (omega arith))) _ _ (t .0)),
+          (push-course putPoints (out (a .out-points .now) (a .out-starts .now) (placesIn (a .w))) _ (omega (arith, thinned-length (a .threshold) at (a .a) (a .e) (omega arith))) _ _ (t .0)),
       omega (arith, t .1),
       t .2,
     )

@@ -6,7 +6,7 @@ use Rattle.path.proofs.Pushes.{push-turn, push-end, push-room, push-starts}
 use Rattle.path.specs.Strokes.{pointAt}
 use Rattle.path.specs.InnerPushes.{putPoints, out, pushAll}
 use Rattle.path_simplify.specs.Simplify.{simplified, distances, simplifiedOf}
-use Rattle.path_simplify.specs.InnerSquares.{placeOf}
+use Rattle.path_simplify.specs.InnerSquares.{placesIn}
 use Prim.Native.Nat.{ℕ, _/_}
 use lib.ListN.{length, drop, getD, length-replicate}
 use Rattle.refusal.specs.Limits.{mostToSimplify}
@@ -18,7 +18,7 @@ use Rattle.path_simplify.proofs.write_strokes.Tie as tie
 
 abbrev Inv-loop : tie.InvT-loop
 Inv-loop points starts threshold out-points₀ out-starts₀ kept₀ w₀ i₀ out-points out-starts kept w i = (i ≤ length starts) × (w .starts ≤ i) × (length out-points ≡ length out-points₀) × (length out-starts ≡ length out-starts₀)
-    × (pushAll putPoints (out out-points out-starts (placeOf w)) (simplified (simplifiedOf threshold points (drop i starts))) ≡ pushAll putPoints (out out-points₀ out-starts₀ (placeOf w₀)) (simplified (simplifiedOf threshold points starts)))
+    × (pushAll putPoints (out out-points out-starts (placesIn w)) (simplified (simplifiedOf threshold points (drop i starts))) ≡ pushAll putPoints (out out-points₀ out-starts₀ (placesIn w₀)) (simplified (simplifiedOf threshold points starts)))
     × (w .distances + distances (simplifiedOf threshold points (drop i starts)) ≡ distances (simplifiedOf threshold points starts))
     × (length kept ≡ 4098)
 
@@ -45,7 +45,7 @@ write-stroke-requires c κs =
     let l = c .before .before .before .before .before .before in
     let a = l .before .before .before .before .before .args in
     let m = thins-more (a .threshold) (pointAt (a .points .now)) (length (a .points .now) / 3) (a .starts .now) (l .loop .i) _ (search needs) (c .before .before .before .end-of .ensures) in
-    let o = out (l .loop .out-points) (l .loop .out-starts) (placeOf (l .loop .w)) in
+    let o = out (l .loop .out-points) (l .loop .out-starts) (placesIn (l .loop .w)) in
     let room = subst (λ (k : ℕ). k ≤ length (a .points .now) / 3) (sym (c .before .before .before .end-of .ensures)) (ends-in (length (a .points .now) / 3) (a .starts .now) (l .loop .i) (l .before .before .before .before .before .pre .3)) in
     let r = push-room putPoints o _ _ _ _ (ap (pushAll putPoints o) (sym (more-points m)) ∙ l .loop .inv .4) refl in
     let few = subst (λ (k : ℕ). k - getD (a .starts .now) (l .loop .i) 0 ≤ mostToSimplify) (sym (c .before .before .before .end-of .ensures)) (short-in (length (a .points .now) / 3) (a .starts .now) (l .loop .i) (l .before .before .before .before .before .pre .4) (search needs)) in
@@ -64,7 +64,7 @@ loop-again c =
     let a = l .before .before .before .before .before .args in
     let m = thins-more (a .threshold) (pointAt (a .points .now)) (length (a .points .now) / 3) (a .starts .now) (l .loop .i) _ (search needs) (c .before .before .before .before .before .before .before .before .end-of .ensures) in (
       omega arith,
-      omega (arith, push-starts putPoints (out (l .loop .out-points) (l .loop .out-starts) (placeOf (l .loop .w))) _ _ (w .write-stroke .ensures .0)),
+      omega (arith, push-starts putPoints (out (l .loop .out-points) (l .loop .out-starts) (placesIn (l .loop .w))) _ _ (w .write-stroke .ensures .0)),
       cc,
       cc,
       push-turn putPoints _ _ (more-points m) (w .write-stroke .ensures .0) ∙ l .loop .inv .4,

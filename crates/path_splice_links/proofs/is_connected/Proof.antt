@@ -6,7 +6,7 @@ use borrow.Author.Needs.{needs}
 use Rattle.order.proofs.Parts.{get-region}
 use Rattle.path_splice_rule.specs.Splice.{isFree}
 use Rattle.path_splice_links.specs.declared.Link.{Link}
-use Rattle.path_splice_links.specs.Links.{wordOf}
+use Rattle.path_splice_links.specs.Links.{linkWord}
 use Rattle.path_splice_links.specs.Layout.{linksIn}
 use Rattle.path_splice_links.specs.Walk.{linkIn}
 use Rattle.path_splice_links.proofs.is_connected.Statement.{statement}
@@ -35,16 +35,16 @@ enum-told-2 c = search needs
 
 -- the link that was read is that of end e
 read : (c : tie.After-link-in)
-    → let a = c .before .before .before .args in not (isFree (wordOf (c .link-in .result))) ≡ not (isFree (linkIn (linksIn (a .s .now) (a .n)) (a .e .0)))
+    → let a = c .before .before .before .args in not (isFree (linkWord (c .link-in .result))) ≡ not (isFree (linkIn (linksIn (a .s .now) (a .n)) (a .e .0)))
 read c =
     let z = c .before .before .before in
     ap (λ (x : ℕ). not (isFree x)) (c .link-in .ensures ∙ sym (get-region (z .args .s .now) (4 * z .args .n) (2 * z .args .n) (z .args .e .0) (z .pre .2)))
 
 returns : tie.Need-returns
-returns c = ap (λ (l : Link). not (isFree (wordOf l))) (sym (c .enum-told .given .1)) ∙ read (c .before .before)
+returns c = ap (λ (l : Link). not (isFree (linkWord l))) (sym (c .enum-told .given .1)) ∙ read (c .before .before)
 
 returns-2 : tie.Need-returns-2
-returns-2 c = ap (λ (l : Link). not (isFree (wordOf l))) (sym (c .enum-told2 .given .1)) ∙ read (c .before .before)
+returns-2 c = ap (λ (l : Link). not (isFree (linkWord l))) (sym (c .enum-told2 .given .1)) ∙ read (c .before .before)
 
 pub is-connected-spec : {M : Type 1} → statement M
 is-connected-spec =

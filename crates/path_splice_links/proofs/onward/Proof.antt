@@ -5,7 +5,7 @@ use lib.ListN.{length, getD}
 use native.Mathlib.Omega.{arith}
 use borrow.Author.Needs.{needs}
 use Rattle.path_splice_rule.proofs.Ends.{opp-reach}
-use Rattle.path_splice_links.specs.Links.{wordOf}
+use Rattle.path_splice_links.specs.Links.{linkWord}
 use Rattle.path_splice_links.proofs.Stepping.{on-none, on-seen, on-go}
 use Rattle.path_splice_links.proofs.onward.Statement.{statement}
 use Rattle.path_splice_links.proofs.onward.Tie as tie
@@ -32,7 +32,7 @@ returns c =
     let m = c .before .before in
     let o = m .before .before in
     let a = o .before .before .before .args in
-    on-none (a .links .now) (a .todo .now) (o .opposite .result .0) (a .e .0) (o .opposite .ensures) (sym (m .link-in .ensures) ∙ ap wordOf (c .enum-told .given .1))
+    on-none (a .links .now) (a .todo .now) (o .opposite .result .0) (a .e .0) (o .opposite .ensures) (sym (m .link-in .ensures) ∙ ap linkWord (c .enum-told .given .1))
 
 enum-known-f : tie.Need-enum-known-f
 enum-known-f c = search needs
@@ -42,7 +42,7 @@ path-id-requires c κs = search needs
 
 -- the link that was read, and that the stroke of its end is there
 linked : (c : tie.After-path-id) → let o = c .before .before .before .before .before .before in getD (o .before .before .before .args .links .now) (o .opposite .result .0) 0 ≡ suc (c .before .before .f .given .0 .0 .0)
-linked c = sym (c .before .before .before .before .link-in .ensures) ∙ ap wordOf (c .before .before .f .given .1)
+linked c = sym (c .before .before .before .before .link-in .ensures) ∙ ap linkWord (c .before .before .f .given .1)
 
 there : (c : tie.After-path-id) → c .path-id .result < length (c .before .before .before .before .before .before .before .before .before .args .todo .now)
 there c =

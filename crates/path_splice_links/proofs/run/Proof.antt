@@ -7,7 +7,7 @@ use lib.ListN.{length, length-set}
 use borrow.Author.Needs.{needs}
 use Rattle.refusal.specs.Limits.{mostStrokes}
 use Rattle.order.specs.Regions.{region, Into2}
-use Rattle.path_splice_links.specs.Links.{wordOf}
+use Rattle.path_splice_links.specs.Links.{linkWord}
 use Rattle.path_splice_links.specs.Layout.{orderAt, todoAt, linksIn, todoIn}
 use Rattle.path_splice_links.proofs.Loop.{Walking}
 use Rattle.path_splice_links.proofs.Threads.{runs-none, end-lt, place-lt, within-more, runs-finish, runs-turn}
@@ -89,7 +89,7 @@ loop-again : tie.Need-loop-again Inv-loop μ-loop
 loop-again c =
     let z = c .before .before .before .before .before .before .before .before .before in
     let l = c .before .before .before .before .before .before .before .loop in
-    let J = runs-turn (z .args .s .now) (z .args .n) (z .args .at) (z .pre .0) (z .args .start .0) (z .pre .1 .0) (z .pre .1 .1) (l .s) (l .e .0) (l .k) (l .f) (l .inv .4) _ (c .before .before .before .before .before .before .path-id .ensures) _ (c .before .before .before .go-on .ensures) _ (ap wordOf (c .before .g .given .1)) in
+    let J = runs-turn (z .args .s .now) (z .args .n) (z .args .at) (z .pre .0) (z .args .start .0) (z .pre .1 .0) (z .pre .1 .1) (l .s) (l .e .0) (l .k) (l .f) (l .inv .4) _ (c .before .before .before .before .before .before .path-id .ensures) _ (c .before .before .before .go-on .ensures) _ (ap linkWord (c .before .g .given .1)) in
     (end-lt (z .args .s .now) (z .args .n) (z .args .at) (z .pre .0) (z .args .start .0) (z .pre .1 .0) (z .pre .1 .1) _ _ _ _ J, place-lt (z .args .s .now) (z .args .n) (z .args .at) (z .pre .0) (z .args .start .0) (z .pre .1 .0) (z .pre .1 .1) _ _ _ _ J, omega arith, rw (length-set, length-set) (l .inv .3), J)
 
 enum-told : tie.Need-enum-told Inv-loop μ-loop
@@ -102,7 +102,7 @@ returns : tie.Need-returns Inv-loop μ-loop
 returns c =
     let z = c .before .before .before .before .before .before .before .before in
     let l = c .before .before .before .before .before .before .loop in
-    runs-finish (z .args .s .now) (z .args .n) (z .args .at) (z .pre .0) (z .args .start .0) (z .pre .1 .0) (z .pre .1 .1) (l .s) (l .e .0) (l .k) (l .f) (l .inv .4) _ (c .before .before .before .before .before .path-id .ensures) _ (c .before .before .go-on .ensures) (ap wordOf (c .enum-told .given .1))
+    runs-finish (z .args .s .now) (z .args .n) (z .args .at) (z .pre .0) (z .args .start .0) (z .pre .1 .0) (z .pre .1 .1) (l .s) (l .e .0) (l .k) (l .f) (l .inv .4) _ (c .before .before .before .before .before .path-id .ensures) _ (c .before .before .go-on .ensures) (ap linkWord (c .enum-told .given .1))
 
 pub run-spec : {M : Type 1} → statement M
 run-spec =

@@ -4,13 +4,13 @@ use borrow.Author.Needs.{needs}
 use mathlib.Core.Path.{_≡_, sym, _∙_}
 use Prim.Native.Nat.{ℕ, _-_, _<_, _≤_}
 use lib.ListN.{length}
-use Rattle.path_splice_links.specs.Runs.{valueOf}
+use Rattle.path_splice_links.specs.Runs.{endValue}
 use Rattle.path_splice_links.proofs.Running.{same-more, same-one}
 use Rattle.path_splice_links.proofs.run_end.Statement.{statement}
 use Rattle.path_splice_links.proofs.run_end.Tie as tie
 
 abbrev Inv-loop : tie.InvT-loop
-Inv-loop values s p v q₀ q = (p < q) × (q ≤ length s) × (v ≡ valueOf values s p) × ((z : ℕ) → p ≤ z → z < q → valueOf values s z ≡ valueOf values s p)
+Inv-loop values s p v q₀ q = (p < q) × (q ≤ length s) × (v ≡ endValue values s p) × ((z : ℕ) → p ≤ z → z < q → endValue values s z ≡ endValue values s p)
 
 abbrev μ-loop : tie.MeasureT-loop
 μ-loop values s p v q₀ q = length s - q

@@ -2,7 +2,7 @@
 use mathlib.Core.Path.{sym, ap, _∙_}
 use native.Mathlib.Omega.{arith}
 use borrow.Author.Needs.{needs}
-use Rattle.path_splice_links.specs.Links.{wordOf}
+use Rattle.path_splice_links.specs.Links.{linkWord}
 use Rattle.path_splice_links.proofs.Threads.{drew-none, skipped, entered, start-is, start-todo, drew-run}
 use Rattle.path_splice_links.proofs.visit.Statement.{statement}
 use Rattle.path_splice_links.proofs.visit.Tie as tie
@@ -33,7 +33,7 @@ enum-known-e c = search needs
 run-requires : tie.Need-run-requires
 run-requires c κs =
     let z = c .before .before .before .before .before .before .before .before .before in
-    let e = sym (ap wordOf (c .before .before .e .given .1)) ∙ c .before .before .before .before .enter .ensures in
+    let e = sym (ap linkWord (c .before .before .e .given .1)) ∙ c .before .before .before .before .enter .ensures in
     (z .pre .0, (omega (arith, start-is (z .args .s .now) (z .args .n) (z .args .at) (z .pre .0) (z .args .rings) (z .args .i) _ e, z .pre .1), start-todo (z .args .s .now) (z .args .n) (z .args .at) (z .pre .0) (z .args .rings) (z .args .i) _ (c .before .before .before .before .before .before .if1 .left) (z .pre .1) e))
 
 same-length : tie.Need-same-length
@@ -42,7 +42,7 @@ same-length c = search needs
 returns-2 : tie.Need-returns-2
 returns-2 c =
     let z = c .before .before .before .before .before .before .before .before .before .before .before .before in
-    drew-run (z .args .s .now) (z .args .n) (z .args .at) (z .pre .0) (z .args .rings) (z .args .i) (c .before .before .run .last .0) _ (c .before .before .run .result) (c .before .before .before .before .before .before .before .before .before .if1 .left) (z .pre .1) (sym (ap wordOf (c .before .before .before .before .before .e .given .1)) ∙ c .before .before .before .before .before .before .before .enter .ensures) (c .before .before .run .ensures)
+    drew-run (z .args .s .now) (z .args .n) (z .args .at) (z .pre .0) (z .args .rings) (z .args .i) (c .before .before .run .last .0) _ (c .before .before .run .result) (c .before .before .before .before .before .before .before .before .before .if1 .left) (z .pre .1) (sym (ap linkWord (c .before .before .before .before .before .e .given .1)) ∙ c .before .before .before .before .before .before .before .enter .ensures) (c .before .before .run .ensures)
 
 enum-told : tie.Need-enum-told
 enum-told c = search needs
@@ -53,7 +53,7 @@ same-length-2 c = search needs
 returns-3 : tie.Need-returns-3
 returns-3 c =
     let z = c .before .before .before .before .before .before .before in
-    drew-none (z .args .s .now) (z .args .n) (z .args .at) (z .pre .0) (z .args .rings) (z .args .i) (entered (z .args .s .now) (z .args .n) (z .args .at) (z .pre .0) (z .args .rings) (z .args .i) _ (c .before .before .before .before .if1 .left) (z .pre .1) (sym (ap wordOf (c .enum-told .given .1)) ∙ c .before .before .enter .ensures))
+    drew-none (z .args .s .now) (z .args .n) (z .args .at) (z .pre .0) (z .args .rings) (z .args .i) (entered (z .args .s .now) (z .args .n) (z .args .at) (z .pre .0) (z .args .rings) (z .args .i) _ (c .before .before .before .before .if1 .left) (z .pre .1) (sym (ap linkWord (c .enum-told .given .1)) ∙ c .before .before .enter .ensures))
 
 pub visit-spec : {M : Type 1} → statement M
 visit-spec =

@@ -2,7 +2,7 @@
 use mathlib.Core.Path.{ap}
 use native.Mathlib.Omega.{arith}
 use borrow.Author.Needs.{needs}
-use Rattle.path_splice_links.specs.Links.{wordOf}
+use Rattle.path_splice_links.specs.Links.{linkWord}
 use Rattle.path_splice_links.proofs.word_of.Statement.{statement}
 use Rattle.path_splice_links.proofs.word_of.Tie as tie
 
@@ -10,13 +10,13 @@ enum-known-l : tie.Need-enum-known-l
 enum-known-l c = search needs
 
 add-result : tie.Need-add-result
-add-result c = omega (arith, ap wordOf (c .before .before .l .given .1), c .before .before .before .before .pre)
+add-result c = omega (arith, ap linkWord (c .before .before .l .given .1), c .before .before .before .before .pre)
 
 cast-result : tie.Need-cast-result
-cast-result c = omega (arith, ap wordOf (c .before .before .l .given .1), c .before .before .before .before .pre)
+cast-result c = omega (arith, ap linkWord (c .before .before .l .given .1), c .before .before .before .before .pre)
 
 returns : tie.Need-returns
-returns c = omega (arith, ap wordOf (c .before .before .l .given .1))
+returns c = omega (arith, ap linkWord (c .before .before .l .given .1))
 
 enum-told : tie.Need-enum-told
 enum-told c = search needs

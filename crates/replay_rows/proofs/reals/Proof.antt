@@ -4,14 +4,14 @@ use native.Mathlib.Omega.{arith}
 use lib.ListN.{length, replicate, length-set}
 use Prim.Native.Nat.{ℕ, _-_, _≤_}
 use mathlib.Core.Path.{_≡_, refl, ap, _∙_}
-use Rattle.replay_rows.specs.Words.{zero64, pastOf, realOf}
+use Rattle.replay_rows.specs.Words.{plusZero, pastOf, realOf}
 use Rattle.replay_rows.specs.Lists.{filled}
 use Rattle.replay_rows.proofs.Laws.{fill-turn, fill-end}
 use Rattle.replay_rows.proofs.reals.Statement.{statement}
 use Rattle.replay_rows.proofs.reals.Tie as tie
 
 abbrev Inv-loop : tie.InvT-loop
-Inv-loop page at list₀ i₀ list i = (i ≤ 96) × (list ≡ filled (λ (j : ℕ). realOf page (pastOf at j)) (replicate 96 zero64) i) × (length list ≡ 96)
+Inv-loop page at list₀ i₀ list i = (i ≤ 96) × (list ≡ filled (λ (j : ℕ). realOf page (pastOf at j)) (replicate 96 plusZero) i) × (length list ≡ 96)
 
 abbrev μ-loop : tie.MeasureT-loop
 μ-loop page at list₀ i₀ list i = 96 - i
@@ -42,10 +42,10 @@ loop-again : tie.Need-loop-again Inv-loop μ-loop
 loop-again c =
     let z = c .before .before .before .before .args in
     let l = c .before .before .before .loop in
-    (omega arith, fill-turn (λ (j : ℕ). realOf (z .page .now) (pastOf (z .at) j)) (replicate 96 zero64) (l .list) (l .i) _ (l .inv .1) (c .real-at .ensures ∙ ap (realOf (z .page .now)) (c .before .past .ensures)), rw length-set (l .inv .2))
+    (omega arith, fill-turn (λ (j : ℕ). realOf (z .page .now) (pastOf (z .at) j)) (replicate 96 plusZero) (l .list) (l .i) _ (l .inv .1) (c .real-at .ensures ∙ ap (realOf (z .page .now)) (c .before .past .ensures)), rw length-set (l .inv .2))
 
 returns : tie.Need-returns Inv-loop μ-loop
-returns c = let l = c .before .loop in (fill-end _ (replicate 96 zero64) (l .list) (l .i) 96 (l .inv .1) (omega arith), l .inv .2)
+returns c = let l = c .before .loop in (fill-end _ (replicate 96 plusZero) (l .list) (l .i) 96 (l .inv .1) (omega arith), l .inv .2)
 
 pub reals-spec : {M : Type 1} → statement M
 reals-spec =

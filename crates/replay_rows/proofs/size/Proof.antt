@@ -1,7 +1,7 @@
 -- `size` meets its contract.
 use mathlib.Core.Path.{_∙_}
 use native.Mathlib.Omega.{arith}
-use Rattle.replay_rows.specs.Words.{wordOf, sizeOf}
+use Rattle.replay_rows.specs.Words.{wordOf, listSize}
 use Rattle.replay_rows.proofs.Laws.{yes, no}
 use borrow.Author.Needs.{needs}
 use Rattle.replay_rows.proofs.size.Statement.{statement}
@@ -11,13 +11,13 @@ word-requires : tie.Need-word-requires
 word-requires c κs = search needs
 
 returns : tie.Need-returns
-unfolding sizeOf
+unfolding listSize
 returns c =
     let z = c .before .before .args in
     (c .before .word .ensures ∙ yes (wordOf (z .page .now) (z .at)) 96 _ _ (omega arith), omega arith)
 
 returns-2 : tie.Need-returns-2
-unfolding sizeOf
+unfolding listSize
 returns-2 c = let z = c .before .before .args in (no (wordOf (z .page .now) (z .at)) 96 _ _ (omega arith), omega arith)
 
 pub size-spec : {M : Type 1} → statement M

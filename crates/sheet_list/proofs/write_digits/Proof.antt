@@ -5,7 +5,7 @@ use Prim.Native.Nat.{_+_, _-_, _≤_}
 use native.Mathlib.Omega.{arith}
 use lib.ListN.{length, length-set}
 use lib.Seq.{sets}
-use Rattle.path.specs.InnerPushes.{course, advanced}
+use Rattle.path.specs.Courses.{course, advanced}
 use Rattle.sheet_list.specs.Listing.{digitsFrom}
 use Rattle.sheet_list.proofs.Inks.{above, digit-turn, digit-stop, digit-end}
 use Rattle.sheet_list.proofs.write_digits.Statement.{statement}

@@ -6,7 +6,7 @@ use native.Mathlib.Omega.{arith}
 use lib.ListN.{length}
 use lib.Seq.{sets}
 use Rattle.path.specs.Strokes.{gather}
-use Rattle.path.specs.InnerPushes.{course, advanced}
+use Rattle.path.specs.Courses.{course, advanced}
 use Rattle.sheet.specs.Sheets.{wordAt}
 use Rattle.sheet_list.specs.Listing.{spaced}
 use Rattle.sheet_list.proofs.Inks.{space-turn, space-end}

@@ -2,7 +2,7 @@
 use mathlib.Core.Path.{ap, _∙_}
 use Prim.Native.Nat.{ℕ}
 use lib.Seq.{sets}
-use Rattle.path.specs.InnerPushes.{course, advanced}
+use Rattle.path.specs.Courses.{course, advanced}
 use Rattle.sheet_list.specs.Listing.{digitsFrom, decimal}
 use borrow.Author.Needs.{needs}
 use Rattle.sheet_list.proofs.write_number.Statement.{statement}

@@ -3,7 +3,7 @@ use mathlib.Core.Path.{ap, _∙_}
 use mathlib.Core.List.{List}
 use Prim.Native.Nat.{ℕ}
 use lib.Seq.{sets}
-use Rattle.path.specs.InnerPushes.{course, advanced}
+use Rattle.path.specs.Courses.{course, advanced}
 use Rattle.sheet_list.specs.Listing.{lineOf}
 use Rattle.sheet_list.proofs.Lines.{numbers-are}
 use borrow.Author.Needs.{needs}

@@ -5,10 +5,11 @@ use native.Mathlib.Omega.{arith}
 use lib.ListN.{length, drop}
 use lib.Seq.{sets}
 use Rattle.path.specs.Strokes.{gather, strokesOf}
-use Rattle.path.specs.InnerPushes.{course, advanced}
+use Rattle.path.specs.Courses.{course, advanced}
 use Rattle.path.proofs.Gathers.{length-gather}
 use Rattle.sheet.specs.Sheets.{headerWords, wordAt}
-use Rattle.sheet_list.specs.Listing.{linesOf, numberIn}
+use Rattle.sheet_list.specs.Listing.{linesOf}
+use Rattle.sheet_list.specs.InnerLines.{numberIn}
 use Rattle.sheet_list.proofs.Lines.{stroke-turn, stroke-end}
 use Rattle.sheet_list.proofs.write_strokes.Statement.{statement}
 use Rattle.sheet_list.proofs.write_strokes.Tie as tie

@@ -25,7 +25,9 @@ fn main() {
     }
     println!("\n## Inputs made to hurt\n");
     println!(
-        "As many edges as the torus has for a splice, as many vertices to simplify (best of 5 runs), sixteen points a face to cut (best of 5), as many corners for a weld (long ways at many places: best of 3), as many faces for a drawing; growth as above.\n"
+        "As many edges as the torus has for a splice, as many vertices to simplify (best of 5 runs), sixteen points a face to\n\
+         cut (best of 5), as many corners for a weld (long ways at many places: best of 3), as many faces for a drawing;\n\
+         growth as above.\n"
     );
     println!("| call | port, ms | original, ms | port / original | growth |");
     println!("|---|---|---|---|---|");

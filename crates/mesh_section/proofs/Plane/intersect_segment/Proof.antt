@@ -4,7 +4,7 @@ use borrow.Author.Tests.{not-true, not-false}
 use mathlib.Core.Path.{_≡_, sym, _∙_}
 use Rattle.vector.specs.Vectors.{subOf, dotOf}
 use Rattle.mesh_section.specs.Section.{riseOf}
-use Rattle.mesh_section.proofs.Hits.{along, misses, hits}
+use Rattle.mesh_section.proofs.Hits.{misses-along, misses, hits}
 use Rattle.mesh_section.proofs.Plane.intersect_segment.Statement.{statement}
 use Rattle.mesh_section.proofs.Plane.intersect_segment.Tie as tie
 
@@ -43,7 +43,7 @@ returns-2 : tie.Need-returns-2
 returns-2 c =
     let d = c .before .before .before .before in
     let a = d .before .before .before .before .args in
-    along (a .self) (a .tolerance) (a .v0) (a .v1) _ (rise d) (sym (c .before .runs-along .ensures) ∙ c .if2 .taken)
+    misses-along (a .self) (a .tolerance) (a .v0) (a .v1) _ (rise d) (sym (c .before .runs-along .ensures) ∙ c .if2 .taken)
 
 on-segment-requires : tie.Need-on-segment-requires
 on-segment-requires c κs = search needs

@@ -1,7 +1,7 @@
 -- `recursive_subdivide` and `halve`, which call each other, meet their contracts: the depth falls at each halving, and
 -- between two halvings the span is tested, so the measure is twice the depth, and one more at the test.
 use borrow.Author.Needs.{needs}
-use Rattle.path_adaptive.specs.Walk.{join, halved, walk}
+use Rattle.path_adaptive.specs.Walk.{followedBy, halved, walk}
 use Rattle.path_adaptive.proofs.Walks.{walk-ends, walk-stuck, walk-half}
 use Rattle.path_adaptive.proofs.Meets.{meets-stop, meets-one, meets-stuck, meets-halves}
 use Rattle.path_adaptive.specs.InnerSpan.{viewAt, shownAt}
@@ -62,7 +62,7 @@ halve-subdivide-requires t c κs = (omega (arith, c .before .before .before .bef
 
 -- its halves
 halves : (t : ℕ) (c : halve-lts.After-divider (halve-claims t) (halve-at t) halve.Post)
-    → let a = c .before .before .args in let m = c .divider .result in walk (a .depth) (viewAt (a .lens .now)) (shownAt (a .a) (a .s)) (shownAt (a .b) (a .t)) ≡ halved (join (walk (a .depth - 1) (viewAt (a .lens .now)) (shownAt (a .a) (a .s)) m) (walk (a .depth - 1) (viewAt (a .lens .now)) m (shownAt (a .b) (a .t))))
+    → let a = c .before .before .args in let m = c .divider .result in walk (a .depth) (viewAt (a .lens .now)) (shownAt (a .a) (a .s)) (shownAt (a .b) (a .t)) ≡ halved (followedBy (walk (a .depth - 1) (viewAt (a .lens .now)) (shownAt (a .a) (a .s)) m) (walk (a .depth - 1) (viewAt (a .lens .now)) m (shownAt (a .b) (a .t))))
 halves t c =
     let s = c .before .before in
     walk-half (viewAt (s .args .lens .now)) (shownAt (s .args .a) (s .args .s)) (shownAt (s .args .b) (s .args .t)) (s .args .depth) (c .divider .result) (s .pre .1 .0) (c .before .if1 .left) (c .divider .ensures)

@@ -4,7 +4,8 @@ use Rattle.path.specs.Strokes.{pointAt, gather}
 use Rattle.path_adaptive.proofs.Walks.{stroke-none, stroke-some}
 use Rattle.path_adaptive.proofs.Tallies.{spent-stop, stroke-empty, stroke-goes, first-less}
 use Rattle.path_adaptive.proofs.Meets.{points-left}
-use Rattle.path_adaptive.specs.Tally.{spent, pointed}
+use Rattle.path_adaptive.specs.Tally.{spent}
+use Rattle.path_adaptive.specs.InnerMeasure.{pointed}
 use Rattle.path_adaptive.specs.Walk.{shownOf, walkFrom}
 use Prim.Native.Nat.{_+_, _-_}
 use native.Mathlib.Omega.{arith}

@@ -1,5 +1,5 @@
 -- `spend` meets its contract.
-use Rattle.path_adaptive.specs.Tally.{pointed}
+use Rattle.path_adaptive.specs.InnerMeasure.{pointed}
 use native.Mathlib.Omega.{arith}
 use borrow.Author.Tests.{le-leb}
 use borrow.Author.Needs.{needs}

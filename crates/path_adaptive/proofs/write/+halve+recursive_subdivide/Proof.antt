@@ -2,7 +2,7 @@
 -- between two halvings the span is tested, so the measure is twice the depth, and one more at the test.
 use borrow.Author.Needs.{needs}
 use lib.ListN.{length}
-use Rattle.path_adaptive.specs.Walk.{Walk, one, join, halved, walk}
+use Rattle.path_adaptive.specs.Walk.{Walk, onePoint, followedBy, halved, walk}
 use Rattle.path_adaptive.proofs.Walks.{Both, walk-ends, walk-stuck, walk-half, half-both}
 use Rattle.path_adaptive.proofs.Inks.{inks-are, left-fits, right-fits, both-inks}
 use Rattle.path_adaptive.specs.InnerSpan.{viewAt, shownAt}
@@ -62,7 +62,7 @@ halve-sub-subdivide t c = omega arith
 
 -- its halves
 halves : (t : ℕ) (c : halve-lts.After-divider (halve-claims t) (halve-at t) halve.Post)
-    → let a = c .before .before .before .args in let m = c .divider .result in walk (a .depth) (viewAt (a .lens .now)) (shownAt (a .a) (a .s)) (shownAt (a .b) (a .t)) ≡ halved (join (walk (a .depth - 1) (viewAt (a .lens .now)) (shownAt (a .a) (a .s)) m) (walk (a .depth - 1) (viewAt (a .lens .now)) m (shownAt (a .b) (a .t))))
+    → let a = c .before .before .before .args in let m = c .divider .result in walk (a .depth) (viewAt (a .lens .now)) (shownAt (a .a) (a .s)) (shownAt (a .b) (a .t)) ≡ halved (followedBy (walk (a .depth - 1) (viewAt (a .lens .now)) (shownAt (a .a) (a .s)) m) (walk (a .depth - 1) (viewAt (a .lens .now)) m (shownAt (a .b) (a .t))))
 halves t c =
     let s = c .before .before .before in
     walk-half (viewAt (s .args .lens .now)) (shownAt (s .args .a) (s .args .s)) (shownAt (s .args .b) (s .args .t)) (s .args .depth) (c .divider .result) (s .pre .1 .0) (c .before .if1 .left) (c .divider .ensures)
@@ -99,7 +99,7 @@ subdivide-terminator-requires t c κs = search needs
 
 -- a span that is not halved
 short : (t : ℕ) (c : subdivide-lts.Then1 (subdivide-claims t) (subdivide-at t) subdivide.Post)
-    → let a = c .before .before .before .args in walk (a .depth) (viewAt (a .lens .now)) (shownAt (a .a) (a .s)) (shownAt (a .b) (a .t)) ≡ one (a .b)
+    → let a = c .before .before .before .args in walk (a .depth) (viewAt (a .lens .now)) (shownAt (a .a) (a .s)) (shownAt (a .b) (a .t)) ≡ onePoint (a .b)
 short t c =
     let a = c .before .before .before .args in
     walk-ends (viewAt (a .lens .now)) (shownAt (a .a) (a .s)) (shownAt (a .b) (a .t)) (a .depth) (sym (c .before .terminator .ensures) ∙ c .if1 .taken)

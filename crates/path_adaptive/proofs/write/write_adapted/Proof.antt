@@ -1,6 +1,6 @@
 -- `write_adapted` meets its contract: the first point, and then the spans from it on.
 use Rattle.path.specs.Strokes.{pointAt, gather}
-use Rattle.path_adaptive.specs.Walk.{shownOf, one, walkFrom, strokeWalked}
+use Rattle.path_adaptive.specs.Walk.{shownOf, onePoint, walkFrom, strokeWalked}
 use Rattle.path_adaptive.proofs.Walks.{Both, join-both, stroke-some}
 use Rattle.path_adaptive.proofs.Inks.{right-fits, both-inks}
 use Prim.Native.Nat.{_+_, _-_}
@@ -16,7 +16,7 @@ point-at-requires c κs = search needs
 -- the stroke from its first point on
 whole : (c : tie.After-point-at)
     → let a = c .before .before .before .args in let at = pointAt (a .points .now) in let v = c .point-at .result in
-    Both 0 (one v) (walkFrom (a .view) (shownOf (a .view) v) (gather at (a .a + 1) (a .e - (a .a + 1)))) (strokeWalked (a .view) (gather at (a .a) (a .e - a .a)))
+    Both 0 (onePoint v) (walkFrom (a .view) (shownOf (a .view) v) (gather at (a .a + 1) (a .e - (a .a + 1)))) (strokeWalked (a .view) (gather at (a .a) (a .e - a .a)))
 whole c =
     let s = c .before .before .before in
     join-both _ _ _ (stroke-some (s .args .view) (pointAt (s .args .points .now)) (s .args .a) (s .args .e) _ _ (s .pre .0) (c .point-at .ensures) refl) (s .pre .1 .calm)

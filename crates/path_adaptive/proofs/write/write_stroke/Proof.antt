@@ -3,7 +3,7 @@ use Rattle.path.proofs.Pushes.{push-none, push-course}
 use Rattle.path.specs.InnerPushes.{putPoints, out}
 use Rattle.path.specs.Strokes.{pointAt}
 use Rattle.path_adaptive.specs.declared.write.Made.{Made}
-use Rattle.path_adaptive.specs.Walk.{shownOf, Walk, one}
+use Rattle.path_adaptive.specs.Walk.{shownOf, Walk, onePoint}
 use Rattle.path_adaptive.proofs.Walks.{join-both, stroke-none, stroke-some}
 use lib.ListN.{length}
 use native.Mathlib.Omega.{arith}
@@ -45,7 +45,7 @@ returns-2 c =
     let a = s .args in
     let at = pointAt (a .points .now) in
     let w = stroke-some (a .view) at (a .a) (a .e) (at (a .a)) (shownOf (a .view) (at (a .a))) (omega (arith, c .before .before .before .before .before .before .before .before .before .before .before .if1 .left)) refl refl in
-    let b = join-both (one (at (a .a))) _ _ w (s .pre .0 .calm) in
+    let b = join-both (onePoint (at (a .a))) _ _ w (s .pre .0 .calm) in
     let m = c .before .before .before .write-adapted .ensures in
     let r = c .made-of .ensures in
     (rw (r, c .before .before .before .before .before .before .before .put-number .ensures) (push-course putPoints (out (a .out-points .now) (a .out-starts .now) (a .w .place)) _ (omega (arith, b .length-is)) _ _ (m .ink)), ap (λ (x : Made). x .halvings) r ∙ m .count)

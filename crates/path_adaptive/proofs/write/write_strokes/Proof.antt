@@ -5,7 +5,8 @@ use Rattle.path.proofs.Pushes.{push-turn, push-end, push-room, push-starts}
 use Rattle.path.specs.InnerPushes.{putPoints, out, pushAll}
 use Rattle.path_adaptive.specs.declared.write.Made.{Made}
 use Rattle.path_adaptive.proofs.Tallies.{walks-more, walks-none, more-points, more-calm, more-halvings}
-use Rattle.path_adaptive.specs.Walk.{walksOf, adapted, halvingsOf, Calm}
+use Rattle.path_adaptive.specs.Walk.{walksOf, adapted, halvingsOf}
+use Rattle.path_adaptive.specs.InnerWrite.{Calm}
 use lib.ListN.{length, drop}
 use Prim.Native.Nat.{_+_, _-_, _≤_, zero-le}
 use native.Mathlib.Omega.{arith}

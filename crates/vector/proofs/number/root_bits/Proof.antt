@@ -1,7 +1,7 @@
 -- `root_bits` meets its contract: next to 1.0 by its leaf; else the digits are those of the root, rounded, and the exponent is half.
 use borrow.Author.Needs.{needs}
 use native.Mathlib.Omega.{arith}
-use Rattle.vector.specs.Steps.{at}
+use Rattle.vector.specs.Units.{at}
 use Rattle.vector.proofs.Roots.{by-parity, twice}
 use Rattle.vector.proofs.number.root_bits.Statement.{statement}
 use Rattle.vector.proofs.number.root_bits.Tie as tie

@@ -1,8 +1,8 @@
 -- `split` meets its contract. A pattern with a leading digit has its digits. Another's are moved up until they have
 -- one: digits and exponent say the same number at each turn, and the exponent falls.
-use Prim.Native.Nat.{_/_, _^_, _≤_}
+use Prim.Native.Nat.{_/_}
 use native.Mathlib.Omega.{arith}
-use Rattle.vector.specs.Steps.{at}
+use Rattle.vector.specs.Units.{at}
 use Rattle.vector.proofs.Roots.{Rising, normal, rises, rises-more, risen, still}
 use Rattle.vector.proofs.number.split.Statement.{statement}
 use Rattle.vector.proofs.number.split.Tie as tie

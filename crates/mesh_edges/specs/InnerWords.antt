@@ -27,14 +27,14 @@ unfoldable pub flagOf : List ℕ → List ℕ → ℕ → ℕ
 flagOf is flips k = flagBy flips k (mateIn (edgesOf is) k)
 
 -- what the words say of n sides
-unfoldable pub wordsOf : List ℕ → List ℕ → List ℕ
-wordsOf is flips =
+unfoldable pub sideWords : List ℕ → List ℕ → List ℕ
+sideWords is flips =
     let n = length is in
     map (lowOf is) (upFrom 0 n) ++ map (highOf is) (upFrom 0 n) ++ sidesOf is ++ replicate n 0 ++ map (flagOf is flips) (upFrom 0 n)
 
 -- written to the front of a list; nothing is changed where there are too many sides, or too few words
 unfoldable pub edgesIn : List ℕ → List ℕ → List ℕ → List ℕ
-edgesIn s is flips = cond (leb (length is) (3 * mostFaces) && leb (5 * length is) (length s)) (put s 0 (wordsOf is flips)) s
+edgesIn s is flips = cond (leb (length is) (3 * mostFaces) && leb (5 * length is) (length s)) (put s 0 (sideWords is flips)) s
 
 -- ---- neighbours in the list of sides
 

@@ -1,15 +1,6 @@
 -- What the steps of the square root say of whole numbers.
 use mathlib.Core.Path.{_≡_}
-use Prim.Native.Nat.{ℕ, zero, suc, _+_, _*_, _/_, _%_, _^_, _≤_, _<_}
-
--- the units, of 2 ^ -1074, of a positive f64 by its exponent field and its digits field
-abbrev pub unitsAt : ℕ → ℕ → ℕ
-unitsAt zero t = t
-unitsAt (suc x) t = (2 ^ 52 + t) * 2 ^ x
-
--- the same by its pattern, below that of infinity
-unfoldable pub at : ℕ → ℕ
-at b = unitsAt (b / 2 ^ 52) (b % 2 ^ 52)
+use Prim.Native.Nat.{ℕ, _+_, _*_, _/_, _^_, _≤_, _<_}
 
 -- r is the whole part of the root of n
 pub record Digits (n r : ℕ) : Type 0 where

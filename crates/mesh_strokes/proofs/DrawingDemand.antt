@@ -10,6 +10,6 @@ use Rattle.mesh_mode.specs.declared.Mode.{Mode}
 use Rattle.mesh_strokes.specs.Draw.{keptOf, drawingOf}
 
 -- each kept edge once and none invented; then as few open strokes as those edges allow
-pub drawn : (mode : Mode) (eye : Vector) (tolerance : Float) (flips : List ℕ) (vs : List Float) (is : List ℕ) → Demand3 eqb (keptOf mode eye tolerance flips vs is) (drawingOf mode eye tolerance flips vs is)
+pub drawing-demand3 : (mode : Mode) (eye : Vector) (tolerance : Float) (flips : List ℕ) (vs : List Float) (is : List ℕ) → Demand3 eqb (keptOf mode eye tolerance flips vs is) (drawingOf mode eye tolerance flips vs is)
 unfolding drawingOf
-drawn mode eye tolerance flips vs is = on-numbers (keptOf mode eye tolerance flips vs is)
+drawing-demand3 mode eye tolerance flips vs is = on-numbers (keptOf mode eye tolerance flips vs is)
