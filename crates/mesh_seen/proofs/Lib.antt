@@ -1,2 +1,3 @@
 pub mod Normals
 pub mod Faces
+pub mod Alike

@@ -10,6 +10,7 @@ pub mod RootSquare
 pub mod Order
 pub mod Shares
 pub mod Far
+pub mod Zeros
 pub mod Abs
 pub mod Segments
 pub mod Cases

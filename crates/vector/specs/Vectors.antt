@@ -1,5 +1,6 @@
 -- The arithmetic of points, each operation rounded once, in the source's order.
-use lib.Ieee.{Float, binary64, add, sub, mul, div}
+use mathlib.Core.Bool.{Bool, _&&_}
+use lib.Ieee.{Float, binary64, add, sub, mul, div, eq}
 use Rattle.vector.specs.declared.Vector.{Vector}
 
 abbrev pub vec : Float → Float → Float → Vector
@@ -30,6 +31,10 @@ mulScalarOf a s = vec (mul binary64 (a .x) s) (mul binary64 (a .y) s) (mul binar
 
 abbrev pub divScalarOf : Vector → Float → Vector
 divScalarOf a s = vec (div binary64 (a .x) s) (div binary64 (a .y) s) (div binary64 (a .z) s)
+
+-- two points whose coordinates compare equal: -0 equals 0
+unfoldable pub equalOf : Vector → Vector → Bool
+equalOf p v = eq (p .x) (v .x) && (eq (p .y) (v .y) && eq (p .z) (v .z))
 
 -- ---- products
 
