@@ -1,33 +1,22 @@
 -- Equal coordinates lie in one cell, -0 and 0 too.
 use mathlib.Core.Path.{_≡_, refl, sym, ap, _∙_}
 use mathlib.Core.Bool.{Bool, true, false, _&&_, _||_, Bool·beq, true≢false}
-use Prim.Native.Nat.{ℕ, zero, suc, _+_, _-_, _*_, _/_, _^_, _<_}
+use Prim.Native.Nat.{ℕ, zero, suc, _+_, _-_, _*_, _^_, _<_}
 use native.Mathlib.Omega.{arith}
-use native.Mathlib.Nat.{mul-comm, mul-assoc, mul-right-comm, mul-mul-mul-comm, mul-pos}
+use native.Mathlib.Nat.{mul-comm, mul-mul-mul-comm, mul-pos}
 use lib.Dec.{eqb}
-use lib.Pow.{pow-pos}
 use lib.IntN.{ℤ, pos, negsuc}
-use lib.Ieee.{Float, nan, inf, fin, Format, binary64, prec, low, up, down, unlike, span, climb, size, odd, units, round, div, eq, ofFields, ofBits}
-use lib.Ieee.Fits.{down-pos, core, round-is}
-use lib.Ieee.Nearest.{closest-same, div-same}
+use lib.Ieee.{Float, nan, inf, fin, binary64, up, down, unlike, span, climb, size, odd, units, round, div, eq, ofFields, ofBits}
+use lib.Ieee.Fits.{down-pos}
+use lib.Ieee.Scale.{round-same}
 use borrow.Author.Tests.{eqb-true, le-leb}
 use Rattle.vector.specs.declared.Vector.{Vector}
+use Rattle.vector.specs.Vectors.{equalOf}
 use Rattle.vector.specs.Floor.{floorOf}
 use Rattle.mesh_weld.specs.declared.Cube.{Cube}
 use Rattle.mesh_weld.specs.Weld.{cell, side}
-use Rattle.mesh_weld.specs.InnerTable.{count, key, cubeOf, placeOf, rankOf, equalOf}
+use Rattle.mesh_weld.specs.InnerTable.{count, key, cubeOf, placeOf, rankOf}
 use Rattle.mesh_weld.proofs.Cells.{whole}
-
--- equal fractions round to one value
-round-same : (f : Format) (s : Bool) (a b c d : ℕ) → 0 < b → 0 < d → a * d ≡ c * b → round f s a b ≡ round f s c d
-round-same f s a b c d B D h =
-    let l = 2 ^ low f in
-    let x : a * l * d ≡ c * l * b = mul-right-comm a l d ∙ ap (λ (z : ℕ). z * l) h ∙ mul-right-comm c b l in
-    let k = size (c * l / d) - prec f in
-    let y : a * l * (d * 2 ^ k) ≡ c * l * (b * 2 ^ k) = sym (mul-assoc (a * l) d (2 ^ k)) ∙ ap (λ (z : ℕ). z * 2 ^ k) x ∙ mul-assoc (c * l) b (2 ^ k) in
-    round-is f s a b ∙ ap (λ (w : ℕ). core f s (a * l) b (size w - prec f)) (div-same (a * l) b (c * l) d B D x)
-    ∙ ap (λ (q : ℕ). units f s q k) (closest-same (a * l) (b * 2 ^ k) (c * l) (d * 2 ^ k) (mul-pos B (pow-pos k)) (mul-pos D (pow-pos k)) y)
-    ∙ sym (round-is f s c d)
 
 -- the cell of a finite coordinate
 pub side-is : side ≡ fin false 4722366482869645 (negsuc 71)

@@ -2,13 +2,13 @@
 use Rattle.path.specs.Strokes.{pointAt}
 use Rattle.path.specs.InnerPushes.{putPoint}
 use mathlib.Core.Path.{_≡_}
-use mathlib.Core.Bool.{Bool, cond, _&&_, _||_}
+use mathlib.Core.Bool.{Bool, cond, _||_}
 use mathlib.Core.List.{List, [], _∷_}
 use Prim.Native.Nat.{ℕ, suc, _+_, _-_, _*_, _/_, _%_, _^_, _<_, _≤_}
 use lib.ListN.{length, getD, set}
 use lib.Dec.{eqb, leb, ltb}
 use lib.IntN.{ℤ, pos, negsuc}
-use lib.Ieee.{Float, eq, le, neg}
+use lib.Ieee.{Float, le, neg}
 use Rattle.vector.specs.declared.Vector.{Vector}
 use Rattle.mesh_weld.specs.declared.Cube.{Cube}
 use Rattle.mesh_weld.specs.declared.Way.{Way}
@@ -107,10 +107,6 @@ placeOf w x = cond (leb x (w + 1)) (cond (leb w (x + 1)) (w + 1 - x) 100) 100
 -- the place of v's cell among the 27 about c: below 27, or else 100 and more
 unfoldable pub rankOf : Cube → Vector → ℕ
 rankOf c v = placeOf (key (v .x)) (c .x) * 9 + placeOf (key (v .y)) (c .y) * 3 + placeOf (key (v .z)) (c .z)
-
--- two points with equal numbers
-unfoldable pub equalOf : Vector → Vector → Bool
-equalOf p v = eq (p .x) (v .x) && (eq (p .y) (v .y) && eq (p .z) (v .z))
 
 -- a difference that parts two points by itself: 0.000001 or more, either way
 unfoldable pub apartOf : Float → Bool

@@ -19,7 +19,7 @@ ghost use Rattle.path.specs.Strokes.{pointAt};
 ghost use lib.IntN.{natAbs};
 ghost use Rattle.mesh_weld.specs.Weld.{near as nearOf, find as findOf};
 ghost use Rattle.refusal.specs.Limits.{mostFaces};
-ghost use Rattle.mesh_weld.specs.InnerTable.{count, key, cubeOf, Counted, foldedOf, bucketOf, coarseOf, turnedOf, linkOf, Older, Ends, Hung, placeOf, rankOf, equalOf, apartOf, top, scoreOf, scoreAt, cube, eightFrom, allWays, wayOf, onwardOf, lesserOf, worthOf, allWorth, closeOf, allClose, nexts, NoMore, Least, About, Ready, Placed};
+ghost use Rattle.mesh_weld.specs.InnerTable.{count, key, cubeOf, Counted, foldedOf, bucketOf, coarseOf, turnedOf, linkOf, Older, Ends, Hung, placeOf, rankOf, apartOf, top, scoreOf, scoreAt, cube, eightFrom, allWays, wayOf, onwardOf, lesserOf, worthOf, allWorth, closeOf, allClose, nexts, NoMore, Least, About, Ready, Placed};
 ghost use Rattle.mesh_weld.specs.Call.{said, verdictOf, left, weldLeft};
 ghost use Rattle.mesh_weld.specs.InnerTable.{Laid};
 
@@ -169,18 +169,6 @@ fn rank(v: Vector, c: Cube) -> u64
     place(key_of(v.x), c.x) * 9 + place(key_of(v.y), c.y) * 3 + place(key_of(v.z), c.z)
 }
 
-// Whether two points have equal numbers.
-fn equal(p: Vector, v: Vector) -> bool
-    ensures { λ r. ⌜ r ≡ equalOf p v ⌝ }
-{
-    if p.x == v.x {
-        if p.y == v.y {
-            return p.z == v.z;
-        }
-    }
-    false
-}
-
 // Whether a difference of 0.000001 or more, either way, parts two points by itself.
 fn apart(d: f64) -> bool
     ensures { λ r. ⌜ r ≡ apartOf d ⌝ }
@@ -216,7 +204,7 @@ fn score(p: Vector, c: Cube, v: Vector, i: usize) -> u64
     requires { ⌜ (i < 2 ^ 20) × (nearOf p v ≡ true) ⌝ }
     ensures { λ r. ⌜ r ≡ scoreOf p c v i ⌝ }
 {
-    if equal(p, v) {
+    if p.equal(v) {
         return 13 * PLACE + i as u64;
     }
     rank(v, c) * PLACE + i as u64

@@ -3,7 +3,7 @@
 use crate::number::Root;
 ghost use mathlib.Core.Path.{_≡_};
 ghost use Rattle.vector.specs.Answers.{unitSaid};
-ghost use Rattle.vector.specs.Vectors.{vec, addOf, subOf, mulOf, divOf, addScalarOf, subScalarOf, mulScalarOf, divScalarOf, dotOf, crossOf, lengthSquaredOf, distanceSquaredOf};
+ghost use Rattle.vector.specs.Vectors.{vec, addOf, subOf, mulOf, divOf, addScalarOf, subScalarOf, mulScalarOf, divScalarOf, dotOf, crossOf, lengthSquaredOf, distanceSquaredOf, equalOf};
 ghost use Rattle.vector.specs.Lengths.{lengthOf, distanceOf, unitOf, segmentDistanceOf};
 
 pub mod matrix;
@@ -26,6 +26,18 @@ impl Vector {
         ensures { λ r. ⌜ r ≡ vec x y z ⌝ }
     {
         Vector { x, y, z }
+    }
+
+    // Whether the coordinates compare equal: the source's `==`.
+    pub fn equal(self, other: Vector) -> bool
+        ensures { λ r. ⌜ r ≡ equalOf self other ⌝ }
+    {
+        if self.x == other.x {
+            if self.y == other.y {
+                return self.z == other.z;
+            }
+        }
+        false
     }
 
     // The root of the sum of squares; NaN where that is NaN.

@@ -1,7 +1,7 @@
-use mathlib.Core.Path.{refl}
-use Rattle.mesh_weld.specs.InnerTable.{equalOf}
-use Rattle.mesh_weld.proofs.equal.Statement.{statement}
-use Rattle.mesh_weld.proofs.equal.Tie as tie
+-- `equal` meets its contract.
+use Rattle.vector.specs.Vectors.{equalOf}
+use Rattle.vector.proofs.Vector.equal.Statement.{statement}
+use Rattle.vector.proofs.Vector.equal.Tie as tie
 
 returns : tie.Need-returns
 unfolding equalOf
