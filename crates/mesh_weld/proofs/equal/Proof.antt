@@ -1,3 +1,4 @@
+-- `equal` meets its contract: by its three tests.
 use mathlib.Core.Path.{refl}
 use Rattle.mesh_weld.specs.InnerTable.{equalOf}
 use Rattle.mesh_weld.proofs.equal.Statement.{statement}
