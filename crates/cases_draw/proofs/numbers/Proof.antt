@@ -1,4 +1,4 @@
--- `numbers` is safe and ends.
+-- `numbers` is safe and ends. The place i is never past the end of the list; the numbers that are left fall.
 use Prim.Native.Nat.{_-_, _≤_}
 use borrow.Author.Needs.{needs}
 use native.Mathlib.Omega.{arith}

@@ -1,4 +1,4 @@
--- `put_words` is safe and ends.
+-- `put_words` is safe and ends. The bytes stay as many as they were; the words that are left fall.
 use borrow.Author.Needs.{needs}
 use mathlib.Core.Path.{_≡_, refl, _∙_}
 use Prim.Native.Nat.{_-_}

@@ -1,4 +1,5 @@
--- `largest` meets its contract: the largest so far and what is left to compare decide.
+-- `largest` meets its contract. All numbers are below an n that is not 0 where the largest so far and those from i on
+-- are; the numbers that are left fall.
 use borrow.Author.Needs.{needs}
 use mathlib.Core.Bool.{_&&_}
 use mathlib.Core.Path.{_≡_, sym, _∙_}

@@ -1,4 +1,5 @@
--- `write_faces` meets its contract: what is still to be written from face f on is what was to be written at the start.
+-- `write_faces` meets its contract. Pushing the strokes of the faces from f on from here leaves what pushing all
+-- leaves, and so far there are at most a stroke and two points a face; the faces that are left fall.
 use borrow.Author.Needs.{needs}
 use mathlib.Core.Path.{_≡_, refl, sym, ap, _∙_}
 use Prim.Native.Nat.{_-_, _*_, _≤_}

@@ -1,4 +1,5 @@
--- `flat_among` meets its contract: what is left to test decides.
+-- `flat_among` meets its contract. Among the faces from f on one is flat where one of all is; the faces that are left
+-- fall.
 use borrow.Author.Needs.{needs}
 use mathlib.Core.Path.{_≡_, refl, sym, ap, _∙_}
 use Prim.Native.Nat.{_-_, _≤_}

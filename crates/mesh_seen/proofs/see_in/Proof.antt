@@ -1,4 +1,5 @@
--- `see_in` meets its contract: what is still to be stored from face f on is what was to be stored at the start.
+-- `see_in` meets its contract. Storing what is seen of the faces from f on from here leaves what storing all leaves;
+-- the faces that are left fall.
 use borrow.Author.Needs.{needs}
 use mathlib.Core.Path.{_≡_, refl, sym, ap, _∙_}
 use mathlib.Core.List.{List}

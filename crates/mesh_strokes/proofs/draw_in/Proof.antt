@@ -20,12 +20,12 @@ list-edges-requires c κs = search needs
 
 keep-edges-requires : tie.Need-keep-edges-requires
 keep-edges-requires c κs =
-    let a = c .before .before .before .before .before .before .before .before .before .before .before .before .before .before .before .before .before .args in
-    let F = c .before .before .before .before .before .before .before .before .before .before .before .before .before .before .before .before .before .pre .0 in
-    let e = c .before .before .before .before .list-edges .ensures in
+    let e = c .before .before .before .before in
+    let z = e .before .before .before .before .before .before .before .before .before .before .before .before .before in
+    let a = z .args in
     let fl = flipsFor (a .mode) (a .flips .now) in (
-      room-for (a .indices .now) _ _ _ _ F (c .before .before .before .before .list-edges .last .1 .1 .1 .0) (ap length e ∙ edges-length (a .scratch .now) (a .indices .now) fl),
-      listed (a .indices .now) _ _ _ _ F (a .scratch .now) (c .before .before .before .before .list-edges .last .1 .1 .1 .0) fl refl e,
+      room-for (a .indices .now) _ _ _ _ (z .pre .0) (e .list-edges .last .1 .1 .1 .0) (ap length (e .list-edges .ensures) ∙ edges-length (a .scratch .now) (a .indices .now) fl),
+      listed (a .indices .now) _ _ _ _ (z .pre .0) (a .scratch .now) (e .list-edges .last .1 .1 .1 .0) fl refl (e .list-edges .ensures),
     )
 
 mul-a : tie.Need-mul-a
@@ -60,21 +60,21 @@ same-length-4 c = search needs
 
 returns : tie.Need-returns
 returns c =
-    let a = c .before .before .before .before .before .before .before .before .before .before .before .before .before .before .before .before .before .before .before .before .before .before .before .before .before .before .before .before .before .before .args in
-    let F = c .before .before .before .before .before .before .before .before .before .before .before .before .before .before .before .before .before .before .before .before .before .before .before .before .before .before .before .before .before .before .pre .0 in
-    let t = c .before .before .before .before .before .before .before .before .before .before .before .before .before .before .before .before .before .list-edges .last .1 .1 .1 .0 in
-    let et = c .before .before .before .before .before .before .before .before .before .before .before .before .before .before .before .before .before .list-edges .ensures in
-    let K = c .before .before .before .before .before .before .before .before .before .before .before .before .keep-edges .ensures in
-    let fl = flipsFor (a .mode) (a .flips .now) in
-    let m = c .before .before .before .before .before .before .before .before .before .before .before .before .keep-edges .result in
-    let u = c .before .before .before .before .before .before .before .before .before .before .before .before .keep-edges .last .1 .1 .1 .0 in
-    let eu = K .size ∙ ap length et ∙ edges-length (a .scratch .now) (a .indices .now) fl in
-    let seen = subst (λ (z : List Float). KeptIn (a .mode) z (a .tolerance) (a .indices .now) t u m) (c .before .before .before .before .before .before .before .before .before .before .before .before .before .before .before .before .before .before .before .before .before .look .ensures) K in
+    let k = c .before .before .before .before .before .before .before .before .before .before .before .before in
+    let e = k .before .before .before .before .before in
+    let l = e .before .before .before .before in
+    let z = l .before .before .before .before .before .before .before .before .before in
+    let a = z .args in
+    let t = e .list-edges .last .1 .1 .1 .0 in
+    let m = k .keep-edges .result in
+    let u = k .keep-edges .last .1 .1 .1 .0 in
+    let eu = k .keep-edges .ensures .size ∙ ap length (e .list-edges .ensures) ∙ edges-length (a .scratch .now) (a .indices .now) (flipsFor (a .mode) (a .flips .now)) in
+    let seen = subst (λ (s : List Float). KeptIn (a .mode) s (a .tolerance) (a .indices .now) t u m) (l .look .ensures) (k .keep-edges .ensures) in
     laid-as _ _ (a .out-points .now) (a .out-starts .now) _ _ _ _
-    (drawing-of (a .mode) (a .eye) (a .tolerance) (a .flips .now) (a .vertices .now) (a .indices .now) (a .seen .now) (a .scratch .now) t u m _ _ _ _ F refl refl et seen)
+    (drawing-of (a .mode) (a .eye) (a .tolerance) (a .flips .now) (a .vertices .now) (a .indices .now) (a .seen .now) (a .scratch .now) t u m _ _ _ _ (z .pre .0) refl refl (e .list-edges .ensures) seen)
     (spliced (drop (5 * length (a .indices .now)) u) _ (a .out-points .now) (a .out-starts .now) _ _ m _ _
-    (fitting (a .indices .now) _ _ _ _ F m u (a .out-points .now) (a .out-starts .now) eu (K .few) refl refl)
-    (c .before .before .before .before .before .before .splice-pairs .ensures ∙ ap (λ (z : List ℕ). pairsLeft z m (a .out-points .now) (a .out-starts .now)) (all-after u (5 * length (a .indices .now)))))
+    (fitting (a .indices .now) _ _ _ _ (z .pre .0) m u (a .out-points .now) (a .out-starts .now) eu (k .keep-edges .ensures .few) refl refl)
+    (c .before .before .before .before .before .before .splice-pairs .ensures ∙ ap (λ (s : List ℕ). pairsLeft s m (a .out-points .now) (a .out-starts .now)) (all-after u (5 * length (a .indices .now)))))
 
 pub draw-in-spec : {M : Type 1} → statement M
 draw-in-spec =

@@ -1,3 +1,4 @@
+-- `begin` meets its contract: what lies ahead is what the bucket of the cell holds.
 use mathlib.Core.Path.{_≡_, refl, sym, ap}
 use Prim.Native.Nat.{ℕ}
 use native.Mathlib.Omega.{arith}

@@ -1,3 +1,4 @@
+-- `bucket` meets its contract: a number below 2 ^ 32 times m does not wrap, and its share of m is below m.
 use native.Mathlib.Omega.{arith}
 use Rattle.mesh_weld.specs.InnerTable.{bucketOf}
 use Rattle.mesh_weld.proofs.Cells.{bucket-fits, bucket-lt}

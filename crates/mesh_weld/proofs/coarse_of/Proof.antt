@@ -1,3 +1,4 @@
+-- `coarse_of` meets its contract: its three halves are those of the definition.
 use mathlib.Core.Path.{refl}
 use Rattle.mesh_weld.specs.InnerTable.{coarseOf}
 use Rattle.mesh_weld.proofs.coarse_of.Statement.{statement}

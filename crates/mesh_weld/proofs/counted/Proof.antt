@@ -1,3 +1,4 @@
+-- `counted` meets its contract: a number so small fits when it is counted up, and is not negative then.
 use Rattle.mesh_weld.proofs.Cells.{read, back, plus-fits, count-lt}
 use mathlib.Core.Path.{_≡_, refl, sym, ap, _∙_, subst}
 use mathlib.Core.List.{List, _++_, [], _∷_}

@@ -1,3 +1,4 @@
+-- `cube_of` meets its contract: three calls.
 use mathlib.Core.Path.{_≡_, refl, sym, ap, _∙_, subst}
 use Rattle.mesh_weld.specs.InnerTable.{cubeOf}
 use borrow.Author.Needs.{needs}

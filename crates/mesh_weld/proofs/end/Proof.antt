@@ -1,4 +1,5 @@
--- `end` meets its contract: what the way from here ends at is what it ends at from the start.
+-- `end` meets its contract. Where the way from here ends, the way from its bucket ends; each slot that it comes to lies
+-- in the table after the last, and the slots that are left fall.
 use mathlib.Core.Path.{refl}
 use Prim.Native.Nat.{_+_, _-_, _*_}
 use native.Mathlib.Omega.{arith}

@@ -1,3 +1,4 @@
+-- `find` meets its contract: the least that a vertex is worth tells its number, and the top that there is none.
 use mathlib.Core.Path.{_≡_, refl, sym, ap, _∙_, subst}
 use Prim.Native.Nat.{ℕ, _+_, _-_, _*_, _/_, _%_}
 use native.Mathlib.Omega.{arith}

@@ -1,3 +1,4 @@
+-- `folded` meets its contract: two halves add up without wrapping.
 use mathlib.Core.Path.{refl}
 use native.Mathlib.Omega.{arith}
 use Rattle.mesh_weld.specs.InnerTable.{foldedOf}

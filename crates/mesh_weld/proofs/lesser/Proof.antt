@@ -1,3 +1,4 @@
+-- `lesser` meets its contract: by its test.
 use mathlib.Core.Path.{_≡_}
 use borrow.Author.Tests.{lt-ltb, le-ltb}
 use native.Mathlib.Omega.{arith}

@@ -1,5 +1,5 @@
--- `look` meets its contract. The loop keeps: what is in one of the eight coarse cells is scored already, or ahead on the way of that cell; and
--- the number kept is the least of what is scored. Each turn leaves fewer vertices that may still come on the ways.
+-- `look` meets its contract. What is in one of the eight coarse cells is scored already, or ahead on the way of that
+-- cell, and the number kept is the least of what is scored; the vertices that may still come on the ways fall.
 use mathlib.Core.Path.{sym, _∙_, subst}
 use mathlib.Core.List.{List, map}
 use Prim.Native.Nat.{ℕ, _+_, _-_, _*_, _/_, _<_}

@@ -1,3 +1,4 @@
+-- `onward` meets its contract: a way that has ended stays, and another goes on to the link that its next bit tells.
 use mathlib.Core.Path.{_≡_, refl, sym, ap}
 use Prim.Native.Nat.{ℕ, _-_}
 use native.Mathlib.Omega.{arith}

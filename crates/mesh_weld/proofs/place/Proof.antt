@@ -1,3 +1,4 @@
+-- `place` meets its contract: by its two tests.
 use mathlib.Core.Path.{_≡_, refl, sym, ap, _∙_, subst}
 use Prim.Native.Nat.{_+_}
 use native.Mathlib.Omega.{arith}

@@ -1,3 +1,4 @@
+-- `rank` meets its contract: three cells and their places, none above 100, which add up without wrapping.
 use mathlib.Core.Path.{_≡_, refl, sym, ap, _∙_, subst}
 use Prim.Native.Nat.{ℕ, _+_, _*_}
 use native.Mathlib.Omega.{arith}

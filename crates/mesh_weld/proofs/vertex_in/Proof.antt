@@ -1,3 +1,4 @@
+-- `vertex_in` meets its contract: its three numbers are there.
 use borrow.Author.Needs.{needs}
 use mathlib.Core.Path.{refl}
 use Rattle.path.specs.Strokes.{pointAt}

@@ -1,3 +1,5 @@
+-- `weld_all` meets its contract. The vertices and the numbers that the first i corners weld to are stored, and each
+-- vertex is on the way of its coarse cell (`Built`); the corners that are left fall.
 use Rattle.path.specs.Strokes.{pointAt}
 use Rattle.mesh_weld.proofs.Loop.{built-all}
 use mathlib.Core.Path.{_≡_, refl, sym, ap, _∙_, subst}

@@ -29,8 +29,9 @@ mul-h c = search needs
 
 slice-aggregate-read-out : tie.Need-slice-aggregate-read-out
 slice-aggregate-read-out c =
-    let z = c .before .before .before .before .before .before .before .before .before .before .before .before .before in
-    sym (length-take-le (2 * z .args .n) (c .before .before .before .before .thread .last .0) (omega (arith, z .pre .0, c .before .before .before .before .thread .kept .0, c .before .before .before .before .before .before .before .before .fill-pairs .kept .0)))
+    let t = c .before .before .before .before in
+    let z = t .before .before .before .before .before .before .before .before .before in
+    sym (length-take-le (2 * z .args .n) (t .thread .last .0) (omega (arith, z .pre .0, t .thread .kept .0, t .before .before .before .before .fill-pairs .kept .0)))
 
 mul-read-out : tie.Need-mul-read-out
 mul-read-out c = search needs
@@ -58,12 +59,12 @@ part-read-out-end-2 c = search needs
 
 read-out-requires : tie.Need-read-out-requires
 read-out-requires c κs =
-    let z = c .before .before .before .before .before .before .before .before .before .before .before .before .before .before .before .before .before in
-    let f = c .before .before .before .before .before .before .before .before .before .before .before .before .fill-pairs in
-    let t = c .before .before .before .before .before .before .before .before .thread in
+    let t = c .before .before .before .before .before .before .before .before in
+    let f = t .before .before .before .before .fill-pairs in
+    let z = t .before .before .before .before .before .before .before .before .before in
     let n = z .args .n in
-    let W = threads-woven (f .last .0) (t .last .0) n (t .result) (omega (arith, f .kept .0, z .pre .0)) (z .pre .1) (t .ensures .1) (t .ensures .0) in
-    let r = asks (z .args .s .now) n (t .result) (z .pre .0) (z .pre .1) (f .last .0) (f .ensures) (t .last .0) (t .kept .0) W (z .args .out-points .now) (z .args .out-starts .now) (z .pre .2) (z .pre .3) in
+    let W = threads-woven (f .last .0) (t .thread .last .0) n (t .thread .result) (omega (arith, f .kept .0, z .pre .0)) (z .pre .1) (t .thread .ensures .1) (t .thread .ensures .0) in
+    let r = asks (z .args .s .now) n (t .thread .result) (z .pre .0) (z .pre .1) (f .last .0) (f .ensures) (t .thread .last .0) (t .thread .kept .0) W (z .args .out-points .now) (z .args .out-starts .now) (z .pre .2) (z .pre .3) in
     (r .good, (r .points, r .few, r .starts))
 
 same-length : tie.Need-same-length
@@ -77,12 +78,11 @@ same-length-3 c = search needs
 
 returns : tie.Need-returns
 returns c =
-    let z = c .before .before .before .before .before .before .before .before .before .before .before .before .before .before .before .before .before .before .before .before .before .before in
-    let f = c .before .before .before .before .before .before .before .before .before .before .before .before .before .before .before .before .before .fill-pairs in
-    let t = c .before .before .before .before .before .before .before .before .before .before .before .before .before .thread in
-    let n = z .args .n in
-    let W = threads-woven (f .last .0) (t .last .0) n (t .result) (omega (arith, f .kept .0, z .pre .0)) (z .pre .1) (t .ensures .1) (t .ensures .0) in
-    gives (z .args .s .now) n (t .result) (z .pre .0) (z .pre .1) (f .last .0) (f .ensures) (t .last .0) (t .kept .0) W (z .args .out-points .now) (z .args .out-starts .now) _ _ _ _ (z .pre .2) (z .pre .3) (c .before .before .before .before .read-out .ensures)
+    let t = c .before .before .before .before .before .before .before .before .before .before .before .before .before in
+    let f = t .before .before .before .before .fill-pairs in
+    let z = t .before .before .before .before .before .before .before .before .before in
+    let W = threads-woven (f .last .0) (t .thread .last .0) (z .args .n) (t .thread .result) (omega (arith, f .kept .0, z .pre .0)) (z .pre .1) (t .thread .ensures .1) (t .thread .ensures .0) in
+    gives (z .args .s .now) (z .args .n) (t .thread .result) (z .pre .0) (z .pre .1) (f .last .0) (f .ensures) (t .thread .last .0) (t .thread .kept .0) W (z .args .out-points .now) (z .args .out-starts .now) _ _ _ _ (z .pre .2) (z .pre .3) (c .before .before .before .before .read-out .ensures)
 
 pub draw-pairs-spec : {M : Type 1} → statement M
 draw-pairs-spec =

@@ -50,15 +50,15 @@ loop-less c = omega (arith, c .before .before .before .before .before .before .b
 
 loop-again : tie.Need-loop-again Inv-loop μ-loop
 loop-again c =
-    let z = c .before .before .before .before .before .before .before .before .before .before .before .before .before .before .before .before in
-    let l = c .before .before .before .before .before .before .before .before .before .before .loop in
+    let t = c .before .before .before .before .before .before .before .before .before in
+    let a = t .before .before .before .before .before .before .before .args in
+    let l = t .before .loop in
     let r = c .before .before .read-entry in
     let m = c .before .before .before .before .before .before .put-mark in (
-      omega (arith, c .before .before .before .before .before .before .before .before .before .loop-test .taken),
+      omega (arith, t .loop-test .taken),
       search needs,
       search needs,
-      reading-more (strokesIn (z .args .points .now) (z .args .starts .now)) (z .args .order .now) (z .args .out-points .now) (z .args .out-starts .now) (l .out-points) (l .out-starts) (l .p) (l .q) (l .j) (l .inv .3) (c .before .before .before .before .before .before .before .before .before .loop-test .taken)
-          _ _ (r .result) (m .result) (r .ensures .0) (r .ensures .1) (m .ensures .0) (m .ensures .1),
+      reading-more (strokesIn (a .points .now) (a .starts .now)) (a .order .now) (a .out-points .now) (a .out-starts .now) (l .out-points) (l .out-starts) (l .p) (l .q) (l .j) (l .inv .3) (t .loop-test .taken) _ _ (r .result) (m .result) (r .ensures .0) (r .ensures .1) (m .ensures .0) (m .ensures .1),
     )
 
 same-length : tie.Need-same-length Inv-loop μ-loop

@@ -39,12 +39,12 @@ clear-requires c κs = search needs
 
 link-runs-requires : tie.Need-link-runs-requires
 link-runs-requires c κs =
-    let z = c .before .before .before .before .before .before .before .before .before .before .before .before .before .before in
+    let w = c .before .before .before in
+    let z = w .before .before .before .before .before .before .before .before .before .before .before in
     let n = z .args .n in
-    let l = c .before .before .before .before .before .before .before .before .before .before .before .live-ends in
-    let s = c .before .before .before .before .before .before .before .sort-words in
-    let w = c .before .before .before .clear in
-    let W = cleared (s .last .0) (4 * n) (2 * n) (6 * n) (omega arith) (omega (arith, s .kept .0, l .kept .0, z .pre .0)) (w .last .0) (w .ensures) in (
+    let l = w .before .before .before .before .before .before .before .before .live-ends in
+    let s = w .before .before .before .before .sort-words in
+    let W = cleared (s .last .0) (4 * n) (2 * n) (6 * n) (omega arith) (omega (arith, s .kept .0, l .kept .0, z .pre .0)) (w .clear .last .0) (w .clear .ensures) in (
       (size-3 (z .args .s .now) n (z .pre .0) (z .pre .1) (l .last .0) (l .result) (l .ensures) (s .last .0) (s .ensures) _ W, z .pre .1, count-le (z .args .s .now) n (z .pre .0) (z .pre .1) (l .last .0) (l .result) (l .ensures)),
       ranked-3 (z .args .s .now) n (z .pre .0) (z .pre .1) (l .last .0) (l .result) (l .ensures) (s .last .0) (s .ensures) _ W,
     )
@@ -54,12 +54,12 @@ same-length c = search needs
 
 returns : tie.Need-returns
 returns c =
-    let z = c .before .before .before .before .before .before .before .before .before .before .before .before .before .before .before .before .before in
+    let w = c .before .before .before .before .before .before in
+    let z = w .before .before .before .before .before .before .before .before .before .before .before in
     let n = z .args .n in
-    let l = c .before .before .before .before .before .before .before .before .before .before .before .before .before .before .live-ends in
-    let s = c .before .before .before .before .before .before .before .before .before .before .sort-words in
-    let w = c .before .before .before .before .before .before .clear in
-    let W = cleared (s .last .0) (4 * n) (2 * n) (6 * n) (omega arith) (omega (arith, s .kept .0, l .kept .0, z .pre .0)) (w .last .0) (w .ensures) in
+    let l = w .before .before .before .before .before .before .before .before .live-ends in
+    let s = w .before .before .before .before .sort-words in
+    let W = cleared (s .last .0) (4 * n) (2 * n) (6 * n) (omega arith) (omega (arith, s .kept .0, l .kept .0, z .pre .0)) (w .clear .last .0) (w .clear .ensures) in
     linked-4 (z .args .s .now) n (z .pre .0) (z .pre .1) (l .last .0) (l .result) (l .ensures) (s .last .0) (s .ensures) _ W (c .before .before .link-runs .last .0) (c .before .before .link-runs .ensures)
 
 pub link-ends-spec : {M : Type 1} → statement M

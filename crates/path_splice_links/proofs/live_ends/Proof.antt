@@ -1,5 +1,5 @@
--- `live_ends` meets its contract. Of the ends below e those of strokes that are there are written, k of them, and no other
--- word is changed; the ends that are left fall.
+-- `live_ends` meets its contract. Of the ends below e those of strokes that are there are written, k of them, and no
+-- other word is changed; the ends that are left fall.
 use native.Mathlib.Omega.{arith}
 use mathlib.Core.Path.{_≡_, refl}
 use Prim.Native.Nat.{_-_, _*_, _≤_}

@@ -1,4 +1,5 @@
--- `begins` meets its contract.
+-- `begins` meets its contract. The numbers before i are all what they are to be (`wordIs`), and the first that is not
+-- decides; the numbers that are left fall.
 use borrow.Author.Needs.{needs}
 use lib.Dec.{eqb}
 use mathlib.Core.Bool.{true}

@@ -1,4 +1,5 @@
--- `begins_bytes` meets its contract.
+-- `begins_bytes` meets its contract. The bytes before i are all what they are to be (`wordIs`), and the first that is
+-- not decides; the bytes that are left fall.
 use borrow.Author.Needs.{needs}
 use lib.Dec.{eqb}
 use mathlib.Core.Bool.{true}

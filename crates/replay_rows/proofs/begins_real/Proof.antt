@@ -1,4 +1,5 @@
--- `begins_real` meets its contract.
+-- `begins_real` meets its contract. The coordinates before i are all what they are to be (`realIs`), and the first that
+-- is not decides; the coordinates that are left fall.
 use lib.Ieee.{nan}
 use borrow.Author.Needs.{needs}
 use Rattle.replay_rows.specs.Words.{sameOf}

@@ -1,4 +1,5 @@
--- `bytes` meets its contract.
+-- `bytes` meets its contract. Of the 96 bytes those before i are as the page's words from the place on say, and the
+-- others are still 0; the bytes that are left fall.
 use borrow.Author.Needs.{needs}
 use native.Mathlib.Omega.{arith}
 use lib.ListN.{length, replicate, length-set}

@@ -1,4 +1,5 @@
--- `numbers` meets its contract.
+-- `numbers` meets its contract. Of the 96 numbers those before i are as the page's words from the place on say, and the
+-- others are still 0; the numbers that are left fall.
 use borrow.Author.Needs.{needs}
 use native.Mathlib.Omega.{arith}
 use lib.ListN.{length, replicate, length-set}

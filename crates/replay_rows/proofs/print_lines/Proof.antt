@@ -1,4 +1,4 @@
--- `print_lines` meets its contract.
+-- `print_lines` meets its contract. Nothing needs to be kept; the names that are left fall.
 use borrow.Author.Needs.{needs}
 use Prim.Native.Nat.{_-_}
 use native.Mathlib.Omega.{arith}

@@ -1,4 +1,5 @@
--- `reals` meets its contract.
+-- `reals` meets its contract. Of the 96 coordinates those before i are as the page's words from the place on say, and
+-- the others are still 0; the coordinates that are left fall.
 use borrow.Author.Needs.{needs}
 use native.Mathlib.Omega.{arith}
 use lib.ListN.{length, replicate, length-set}

@@ -1,4 +1,4 @@
--- `sum` meets its contract.
+-- `sum` meets its contract. Nothing needs to be kept; the counts that are left fall.
 use borrow.Author.Needs.{needs}
 use Prim.Native.Nat.{_-_}
 use native.Mathlib.Omega.{arith}

@@ -1,3 +1,4 @@
+-- `put_word` meets its contract: four bytes one after the other, or none of them where all lie past the end.
 use Prim.Native.Nat.{_*_}
 use Rattle.sheet.proofs.Words.{four-set, set-none}
 use borrow.Author.Needs.{needs}

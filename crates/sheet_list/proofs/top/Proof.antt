@@ -1,4 +1,5 @@
--- `top` meets its contract: what is still to be found from here is what was to be found at the start.
+-- `top` meets its contract. The power that is found from p on in the turns that are left is the one that is found from
+-- 1 on in all; the turns that are left fall.
 use mathlib.Core.Path.{_≡_, refl}
 use Prim.Native.Nat.{_-_, _≤_}
 use native.Mathlib.Omega.{arith}

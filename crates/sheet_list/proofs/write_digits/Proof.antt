@@ -1,4 +1,5 @@
--- `write_digits` meets its contract: what is still to be written from here is what was to be written at the start.
+-- `write_digits` meets its contract. Writing the digits from the power q down from here leaves what writing all leaves,
+-- and so far there are at most as many bytes as turns; the turns that are left fall.
 use borrow.Author.Needs.{needs}
 use mathlib.Core.Path.{_≡_, refl, ap, _∙_}
 use Prim.Native.Nat.{_+_, _-_, _≤_}

@@ -43,10 +43,10 @@ same-length-2 c = search needs
 
 returns-2 : tie.Need-returns-2
 returns-2 c =
-    let a = c .before .before .before .before .before .before .before .before .before .before .before .before .before .before .before .before .args in
-    let n = c .before .before .before .before .before .before .before .before .before .before .write-number .ensures in
+    let n = c .before .before .before .before .before .before .before .before .before .before in
+    let z = n .before .before .before .before .before .before in
     let m = c .before .before .before .before .before .before .write-more .ensures in
-    (line-some (wordAt (a .bytes .now)) (a .out .now) (a .k) (a .a) (a .e) (c .before .before .before .before .before .before .before .before .before .before .before .before .before .if1 .left) _ (c .before .before .before .before .before .before .before .before .before .before .before .before .word-at .ensures) _ _ _ _ _ (n .0) (m .0) (c .before .before .put-byte2 .ensures), omega (arith, n .1, m .1, c .before .before .before .before .before .before .before .before .before .before .before .before .before .before .before .before .pre))
+    (line-some (wordAt (z .args .bytes .now)) (z .args .out .now) (z .args .k) (z .args .a) (z .args .e) (n .before .before .before .if1 .left) _ (n .before .before .word-at .ensures) _ _ _ _ _ (n .write-number .ensures .0) (m .0) (c .before .before .put-byte2 .ensures), omega (arith, n .write-number .ensures .1, m .1, z .pre))
 
 pub write-line-spec : {M : Type 1} → statement M
 write-line-spec =

@@ -1,4 +1,5 @@
--- `write_more` meets its contract: what is still to be written from here is what was to be written at the start.
+-- `write_more` meets its contract. Writing the words from the i-th on from here leaves what writing all leaves, and so
+-- far there are at most 11 bytes a word; the words that are left fall.
 use borrow.Author.Needs.{needs}
 use mathlib.Core.Path.{_≡_, refl}
 use Prim.Native.Nat.{_+_, _-_, _*_, _≤_}
@@ -37,18 +38,18 @@ write-number-requires : tie.Need-write-number-requires Inv-loop μ-loop
 write-number-requires c κs = omega (arith, c .before .before .before .before .before .before .before .loop .inv .0, c .before .before .before .before .before .before .before .loop .inv .1, c .before .before .before .before .before .before .before .loop .inv .2, c .before .before .before .before .before .before .before .before .before .before .pre)
 
 add-i : tie.Need-add-i Inv-loop μ-loop
-add-i c = omega (arith, c .before .before .before .before .before .before .before .before .before .loop-test .taken, c .before .before .before .before .before .before .before .before .before .before .before .before .before .pre)
+add-i c = let t = c .before .before .before .before .before .before .before .before .before in omega (arith, t .loop-test .taken, t .before .before .before .before .pre)
 
 loop-less : tie.Need-loop-less Inv-loop μ-loop
 loop-less c = omega (arith, c .before .before .before .before .before .before .before .before .before .loop-test .taken)
 
 loop-again : tie.Need-loop-again Inv-loop μ-loop
 loop-again c =
-    let l = c .before .before .before .before .before .before .before .before .before .before .loop in
-    let a = c .before .before .before .before .before .before .before .before .before .before .before .before .before .args in
-    let t = c .before .before .before .before .before .before .before .before .before .loop-test .taken in
+    let t = c .before .before .before .before .before .before .before .before .before in
+    let l = t .before .loop in
+    let a = t .before .before .before .before .args in
     let w = c .before .before .write-number .ensures in
-    (omega (arith, l .inv .0), omega (arith, t), omega (arith, w .1, l .inv .0, l .inv .2), cc, space-turn (wordAt (a .bytes .now)) (l .out) (l .at) (l .i) (a .e) (l .inv .4) t _ _ _ _ (c .before .before .before .before .before .before .before .put-byte .ensures) (c .before .before .before .before .word-at .ensures) (w .0))
+    (omega (arith, l .inv .0), omega (arith, t .loop-test .taken), omega (arith, w .1, l .inv .0, l .inv .2), cc, space-turn (wordAt (a .bytes .now)) (l .out) (l .at) (l .i) (a .e) (l .inv .4) (t .loop-test .taken) _ _ _ _ (c .before .before .before .before .before .before .before .put-byte .ensures) (c .before .before .before .before .word-at .ensures) (w .0))
 
 same-length : tie.Need-same-length Inv-loop μ-loop
 same-length c = c .before .loop .inv .3

@@ -1,4 +1,5 @@
--- `write_strokes` meets its contract: what is still to be written from here is what was to be written at the start.
+-- `write_strokes` meets its contract. Writing the lines of the strokes from the i-th on from here leaves what writing
+-- all leaves, and so far there are at most the bytes of the longest line a stroke; the strokes that are left fall.
 use mathlib.Core.Path.{_≡_, refl}
 use Prim.Native.Nat.{_+_, _-_, _*_, _≤_}
 use native.Mathlib.Omega.{arith}

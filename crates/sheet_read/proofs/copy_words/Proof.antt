@@ -1,4 +1,5 @@
--- `copy_words` meets its contract: what is still to be written from here is what was to be written at the start.
+-- `copy_words` meets its contract. Storing the words from the i-th on from here leaves what storing all leaves; the
+-- words that are left fall.
 use borrow.Author.Needs.{needs}
 use mathlib.Core.Path.{_≡_, sym, ap, _∙_}
 use mathlib.Core.List.{List}

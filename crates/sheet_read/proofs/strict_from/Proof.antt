@@ -1,4 +1,5 @@
--- `strict_from` meets its contract: what is left to test decides.
+-- `strict_from` meets its contract. The words from the i-th on rise strictly above the last one passed, and stay below
+-- n, where all do above s; the words that are left fall.
 use borrow.Author.Needs.{needs}
 use mathlib.Core.Path.{_≡_, refl, sym, _∙_}
 use Prim.Native.Nat.{_-_}

@@ -1,4 +1,4 @@
--- `words_below` meets its contract: what is left to test decides.
+-- `words_below` meets its contract. The words from the i-th on are below n where all are; the words that are left fall.
 use borrow.Author.Needs.{needs}
 use mathlib.Core.Path.{_≡_, refl, sym, _∙_}
 use Prim.Native.Nat.{_-_}

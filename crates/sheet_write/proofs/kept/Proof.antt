@@ -1,4 +1,5 @@
--- `kept` meets its contract: the count so far and those to come are all.
+-- `kept` meets its contract. Those counted and those with points from the i-th on are all that have points; the strokes
+-- that are left fall.
 use borrow.Author.Needs.{needs}
 use mathlib.Core.Path.{_≡_}
 use Prim.Native.Nat.{_+_, _-_, _≤_}

@@ -42,11 +42,11 @@ same-length c = search needs
 
 returns : tie.Need-returns
 returns c =
-    let a = c .before .before .before .before .before .before .before .before .before .before .before .before .before .before .before .before .before .args in
-    let s = c .before .before .before .before .before .before .before .before .before .before .before .before .before .kept .ensures .0 in
+    let s = c .before .before .before .before .before .before .before .before .before .before .before .before .before in
+    let a = s .before .before .before .before .args in
     let w = c .before .before .before .before .before .before .write-starts .ensures in
     let n = length (a .numbers .now) in
-    let h = c .before .before .before .before .before .before .before .before .before .before .write-header .ensures ∙ ap (λ (x : ℕ). sets (a .out .now) 0 (bytesAll (headerOf x (a .vertices) (c .before .before .before .before .before .before .before .before .before .before .before .before .before .kept .result) n))) (c .before .before .before .before .before .before .before .before .before .before .before .mode-word .ensures) ∙ ap (λ (x : ℕ). sets (a .out .now) 0 (bytesAll (headerOf (modeWord (a .mode)) (a .vertices) x n))) s in
+    let h = c .before .before .before .before .before .before .before .before .before .before .write-header .ensures ∙ ap (λ (x : ℕ). sets (a .out .now) 0 (bytesAll (headerOf x (a .vertices) (s .kept .result) n))) (c .before .before .before .before .before .before .before .before .before .before .before .mode-word .ensures) ∙ ap (λ (x : ℕ). sets (a .out .now) 0 (bytesAll (headerOf (modeWord (a .mode)) (a .vertices) x n))) (s .kept .ensures .0) in
     (all-put (a .out .now) (modeWord (a .mode)) (a .vertices) (keptFrom n (a .starts .now)) (a .numbers .now) _ _ _ _ h (w .0) (w .1 .0) (c .before .before .write-numbers .ensures), ap (λ (k : ℕ). 4 * (k + n)) (w .1 .0))
 
 pub write-all-spec : {M : Type 1} → statement M

@@ -1,4 +1,5 @@
--- `write_numbers` meets its contract: what is still to be written from here is what was to be written at the start.
+-- `write_numbers` meets its contract. Storing the numbers from the i-th on from here leaves what storing all leaves;
+-- the numbers that are left fall.
 use mathlib.Core.Path.{_≡_, sym, ap, _∙_}
 use lib.Seq.{sets, length-sets}
 use borrow.Author.Needs.{needs}

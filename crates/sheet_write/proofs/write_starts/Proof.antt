@@ -1,4 +1,5 @@
--- `write_starts` meets its contract: what is still to be written from here is what was to be written at the start.
+-- `write_starts` meets its contract. Storing the starts of the strokes with points from the i-th on from here leaves
+-- what storing all leaves, and ends at the place after all; the strokes that are left fall.
 use mathlib.Core.Path.{_≡_, refl, sym, ap, _∙_}
 use lib.Seq.{sets, length-sets}
 use Rattle.sheet_write.proofs.Kepts.{place-turn, count-end, put-turn, put-end}

@@ -1,8 +1,10 @@
--- `verdict` meets its contract: each test is that of the definition.
-use mathlib.Core.Path.{sym, ap, _∙_}
+-- `write_verdict` meets its contract: each test is that of the definition.
+use mathlib.Core.Path.{_≡_, sym, ap, _∙_}
 use native.Mathlib.Omega.{arith}
 use lib.Dec.{ltb}
 use borrow.Author.Tests.{not-true, not-false}
+use Rattle.refusal.specs.declared.Refusal.the-variants.{Room}
+use Rattle.refusal.specs.declared.Verdict.the-variants.{Accepted}
 use Rattle.refusal.specs.Refusals.{unless}
 use Rattle.sheet_write.specs.Call.{verdictOf}
 use Rattle.sheet.proofs.Modes.{word-some}
@@ -58,27 +60,26 @@ returns-4 c =
 fits-requires : tie.Need-fits-requires
 fits-requires c κs = omega (arith, limits _ _ _ (sym (c .before .before .before .before .before .counts-good .ensures) ∙ not-false _ (c .before .before .before .before .if2 .left)))
 
-returns-5 : tie.Need-returns-5
+-- what the last test tells where those before it passed
+last : (c : tie.After-fits2) → let a = c .before .before .before .before .before .before .before .before .before .before .before .args in verdictOf (a .mode) (a .vertices) (a .numbers .now) (a .starts .now) (a .room) ≡ unless (c .fits2 .result) Room Accepted
 unfolding verdictOf unless
-returns-5 c =
-    simp (
-      sym (c .before .before .before .before .before .before .before .before .before .rising .ensures) ∙ not-false _ (c .before .before .before .before .before .before .before .before .if1 .left),
-      sym (c .before .before .before .before .before .before .before .counts-good .ensures) ∙ not-false _ (c .before .before .before .before .before .before .if2 .left),
-      sym (c .before .before .before .before .before .all-below .ensures) ∙ not-false _ (c .before .before .before .before .if3 .left),
-      word-some _ _ (c .before .before .before .mode-word .ensures) (c .before .before .if4 .left),
-      sym (same-size (c .before .before .before .before .before .before .before .before .before .before .before .before .args .numbers .now) (c .before .before .before .before .before .before .before .before .before .before .before .before .args .starts .now) (c .before .before .before .before .before .before .before .before .before .before .before .before .args .room) (sym (c .before .before .before .before .before .before .before .before .before .rising .ensures) ∙ not-false _ (c .before .before .before .before .before .before .before .before .if1 .left))) ∙ sym (c .before .fits2 .ensures) ∙ not-true _ (c .if5 .taken),
+last c =
+    let a = c .before .before .before .before .before .before .before .before .before .before .before .args in
+    let r = sym (c .before .before .before .before .before .before .before .before .rising .ensures) ∙ not-false _ (c .before .before .before .before .before .before .before .if1 .left) in simp (
+      r,
+      sym (c .before .before .before .before .before .before .counts-good .ensures) ∙ not-false _ (c .before .before .before .before .before .if2 .left),
+      sym (c .before .before .before .before .all-below .ensures) ∙ not-false _ (c .before .before .before .if3 .left),
+      word-some _ _ (c .before .before .mode-word .ensures) (c .before .if4 .left),
+      sym (same-size (a .numbers .now) (a .starts .now) (a .room) r) ∙ sym (c .fits2 .ensures),
     )
 
+returns-5 : tie.Need-returns-5
+unfolding unless
+returns-5 c = rw (last (c .before), not-true (c .before .fits2 .result) (c .if5 .taken))
+
 returns-6 : tie.Need-returns-6
-unfolding verdictOf unless
-returns-6 c =
-    simp (
-      sym (c .before .before .before .before .before .before .before .before .before .rising .ensures) ∙ not-false _ (c .before .before .before .before .before .before .before .before .if1 .left),
-      sym (c .before .before .before .before .before .before .before .counts-good .ensures) ∙ not-false _ (c .before .before .before .before .before .before .if2 .left),
-      sym (c .before .before .before .before .before .all-below .ensures) ∙ not-false _ (c .before .before .before .before .if3 .left),
-      word-some _ _ (c .before .before .before .mode-word .ensures) (c .before .before .if4 .left),
-      sym (same-size (c .before .before .before .before .before .before .before .before .before .before .before .before .args .numbers .now) (c .before .before .before .before .before .before .before .before .before .before .before .before .args .starts .now) (c .before .before .before .before .before .before .before .before .before .before .before .before .args .room) (sym (c .before .before .before .before .before .before .before .before .before .rising .ensures) ∙ not-false _ (c .before .before .before .before .before .before .before .before .if1 .left))) ∙ sym (c .before .fits2 .ensures) ∙ not-false _ (c .if5 .left),
-    )
+unfolding unless
+returns-6 c = rw (last (c .before), not-false (c .before .fits2 .result) (c .if5 .left))
 
 pub write-verdict-spec : {M : Type 1} → statement M
 write-verdict-spec =

@@ -1,5 +1,5 @@
--- `measure_spans` meets its contract. What the spans from place j on meet from here is what all spans meet from the start;
--- the spans that are left fall.
+-- `measure_spans` meets its contract. What the spans from place j on meet from here is what all spans meet from the
+-- start; the spans that are left fall.
 use borrow.Author.Needs.{needs}
 use Rattle.path_adaptive.specs.declared.Tally.{Tally}
 use Rattle.path_adaptive.specs.declared.View.{View}

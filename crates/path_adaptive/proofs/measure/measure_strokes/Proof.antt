@@ -1,5 +1,5 @@
--- `measure_strokes` meets its contract. What the strokes from the j-th on meet from here is what all meet from the start, and
--- the points left are few; the strokes that are left fall.
+-- `measure_strokes` meets its contract. What the strokes from the j-th on meet from here is what all meet from the
+-- start, and the points left are few; the strokes that are left fall.
 use borrow.Author.Needs.{needs}
 use Rattle.path_adaptive.proofs.Tallies.{walks-more, walks-none, more-spent, more-less}
 use Rattle.path_adaptive.specs.Tally.{spentAll}

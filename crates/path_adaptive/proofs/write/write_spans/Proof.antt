@@ -1,5 +1,5 @@
--- `write_spans` meets its contract. The spans from place j on fit after the mark, and writing them from here leaves what
--- writing all leaves; the spans that are left fall.
+-- `write_spans` meets its contract. The spans from place j on fit after the mark, and writing them from here leaves
+-- what writing all leaves; the spans that are left fall.
 use borrow.Author.Needs.{needs}
 use Rattle.path.specs.Strokes.{pointAt, gather}
 use Rattle.path_adaptive.specs.Walk.{shownOf, walk, walkFrom}

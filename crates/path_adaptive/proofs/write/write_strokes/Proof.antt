@@ -1,5 +1,5 @@
--- `write_strokes` meets its contract. Pushing the strokes from the i-th on from here leaves what pushing all leaves, none of
--- them ends too deep, and their halvings and those made are all; the strokes that are left fall.
+-- `write_strokes` meets its contract. Pushing the strokes from the i-th on from here leaves what pushing all leaves,
+-- none of them ends too deep, and their halvings and those made are all; the strokes that are left fall.
 use borrow.Author.Needs.{needs}
 use Rattle.path.proofs.Pushes.{push-turn, push-end, push-room, push-starts}
 use Rattle.path.specs.InnerPushes.{putPoints, out, pushAll}

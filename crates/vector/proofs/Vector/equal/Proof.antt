@@ -1,4 +1,4 @@
--- `equal` meets its contract.
+-- `equal` meets its contract: by its three tests.
 use Rattle.vector.specs.Vectors.{equalOf}
 use Rattle.vector.proofs.Vector.equal.Statement.{statement}
 use Rattle.vector.proofs.Vector.equal.Tie as tie
