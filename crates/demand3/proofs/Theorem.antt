@@ -101,7 +101,7 @@ module _ (vs : List Float) (is flips : List ℕ) (s : C.Sight) (l : L.Lent) wher
   unfolding keptOf keptPair
   kept-once h a b = once (kept mode (seenBy (s .eye) vs is) flips (s .tolerance)) is (words h) a b
 
-  draw-laid : (p q : ℕ) (l′ : L.Lent) → leaves (C.said (drawing.Wrote p q)) l′ ≡ C.drawLeft vs is flips s l → (verdict ≡ Accepted) × (drawing ≡ strokesWritten p q (l′ .points) (l′ .starts))
+  draw-laid : (p q : ℕ) (l′ : L.Lent) → leaves (C.said (drawing.Wrote p q)) l′ ≡ C.drawLeft vs is flips s l → (verdict ≡ Accepted) × (the-drawing ≡ strokesWritten p q (l′ .points) (l′ .starts))
   unfolding C.drawLeft L.laid
   draw-laid p q l′ e =
       let k = was-accepted _ _ _ _ _ e in

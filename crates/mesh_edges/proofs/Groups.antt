@@ -77,9 +77,6 @@ module _ (key : ℕ → ℕ) where
 
 -- the group that begins at place p of a list
 module _ (key : ℕ → ℕ) (l : List ℕ) (p : ℕ) (h : p < length l) where
-  pub group-within : p + 1 + alike key (getD l p 0) (drop (p + 1) l) ≤ length l
-  group-within = omega (arith, alike-le key (getD l p 0) (drop (p + 1) l), length-drop (p + 1) l)
-
   pub group-at : (q : ℕ) → q ≡ p + 1 + alike key (getD l p 0) (drop (p + 1) l) → groupsOf key (drop p l) ≡ region l p (q - p) ∷ groupsOf key (drop q l)
   group-at q e =
       let x = getD l p 0 in

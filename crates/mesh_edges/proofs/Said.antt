@@ -16,7 +16,7 @@ use Rattle.order.proofs.Sorted.{In}
 use Rattle.mesh_edges.specs.Edges.{lowOf, highOf, pairOf, upFrom, sidesOf, groupsOf}
 use Rattle.mesh_edges.specs.InnerWords.{flagOf, sideWords, edgesIn, pairIn, alike, endIn}
 use Rattle.mesh_edges.proofs.Ups.{map-at, map-length, sides-length, side-below, sides-below}
-use Rattle.mesh_edges.proofs.Groups.{alike-agree, group-at, group-within}
+use Rattle.mesh_edges.proofs.Groups.{alike-agree}
 use Rattle.mesh_edges.proofs.Ends.{end-from}
 
 -- a list that begins with five lists of n elements each
@@ -166,13 +166,6 @@ module _ (t is flips : List ℕ) (e : take (5 * length is) t ≡ sideWords is fl
 
   pub words-end : (p : ℕ) → p < length is → endIn t (length is) p ≡ p + 1 + alike (pairOf is) (getD (sidesOf is) p 0) (drop (p + 1) (sidesOf is))
   words-end = said-end t is zeros flags lz lg words
-
-  pub words-within : (p : ℕ) → p < length is → endIn t (length is) p ≤ length is
-  words-within p h = omega (arith, words-end p h, group-within (pairOf is) (sidesOf is) p (omega (arith, sides-length is)), sides-length is)
-
-  -- the edge of the side at place p, and those after it
-  pub words-group : (p : ℕ) → p < length is → (q : ℕ) → q ≡ endIn t (length is) p → groupsOf (pairOf is) (drop p (sidesOf is)) ≡ region (sidesOf is) p (q - p) ∷ groupsOf (pairOf is) (drop q (sidesOf is))
-  words-group p h q w = group-at (pairOf is) (sidesOf is) p (omega (arith, sides-length is)) q (w ∙ words-end p h)
 
 pub words-length : (is flips : List ℕ) → length (sideWords is flips) ≡ 5 * length is
 unfolding sideWords

@@ -1,4 +1,4 @@
--- The walk over the edges in scratch. With n sides their words lie up to 5 n (mesh_edges/specs/Words); the kept edges follow, two numbers each.
+-- The walk over the edges in scratch. With n sides their words lie up to 5 n (mesh_edges/specs/InnerWords); the kept edges follow, two numbers each.
 use mathlib.Core.Path.{_≡_}
 use mathlib.Core.Bool.{Bool, cond}
 use mathlib.Core.List.{List, []}

@@ -10,7 +10,7 @@ use Rattle.path.specs.Strokes.{gather}
 use Rattle.path.proofs.Gathers.{gather-more, gather-none}
 use Rattle.path_adaptive.specs.declared.View.{View}
 use Rattle.path_adaptive.specs.declared.Shown.{Shown}
-use Rattle.path_adaptive.specs.Walk.{shownOf, middleOf, spanEnds, Walk, none, onePoint, stuck, followedBy, halved, walk, walkFrom, strokeWalked}
+use Rattle.path_adaptive.specs.Walk.{mostHalvings, shownOf, middleOf, spanEnds, Walk, none, onePoint, stuck, followedBy, halved, walk, walkFrom, strokeWalked}
 
 -- ---- the walk where it ends, at the last depth, and at a halving
 
@@ -70,7 +70,7 @@ half-both l r w e h =
 
 module _ (view : View) (at : ℕ → Vector) (i e : ℕ) where
   pub from-more : (p q : Shown) → i < e → q ≡ shownOf view (at i)
-      → walkFrom view p (gather at i (e - i)) ≡ followedBy (walk 64 view p q) (walkFrom view q (gather at (i + 1) (e - (i + 1))))
+      → walkFrom view p (gather at i (e - i)) ≡ followedBy (walk mostHalvings view p q) (walkFrom view q (gather at (i + 1) (e - (i + 1))))
   unfolding walkFrom
   from-more p q h f = rw (gather-more at i e h, f)
 
@@ -117,8 +117,8 @@ from-count : (view : View) (a : Shown) (vs : List Vector) → Counted (length vs
 unfolding walkFrom
 from-count view a [] h = refl
 from-count view a (v ∷ vs) h =
-    let b = join-both (walk 64 view a (shownOf view v)) (walkFrom view (shownOf view v) vs) _ refl h in
-    let x = walk-count view 64 a (shownOf view v) (b .calm) in
+    let b = join-both (walk mostHalvings view a (shownOf view v)) (walkFrom view (shownOf view v) vs) _ refl h in
+    let x = walk-count view mostHalvings a (shownOf view v) (b .calm) in
     let y = from-count view (shownOf view v) vs (b .calm-after) in
     omega (arith, b .length-is, b .halvings-are)
 

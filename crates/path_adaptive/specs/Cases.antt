@@ -13,8 +13,8 @@ use Rattle.path_adaptive.specs.Call.{adaptiveLeft}
 pub data Case : Type 0 where
   halvings : ℕ → ℕ → ℕ → ℕ → ℕ → Case
 
-abbrev pub line : ℕ → ℕ → List Float
-line x y = ofBits binary64 x ∷ zero64 ∷ zero64 ∷ ofBits binary64 y ∷ zero64 ∷ zero64 ∷ []
+abbrev pub fromTo : ℕ → ℕ → List Float
+fromTo x y = ofBits binary64 x ∷ zero64 ∷ zero64 ∷ ofBits binary64 y ∷ zero64 ∷ zero64 ∷ []
 
 abbrev pub identity : Matrix
 identity =
@@ -45,7 +45,7 @@ billionth = ofBits binary64 0x3e11_2e0b_e826_d695
 
 abbrev pub Holds : Case → Type 0
 Holds (halvings x y step points h) =
-    adaptiveLeft (line x y) (0 ∷ []) identity ten ten (ofBits binary64 step) billionth (replicate 15 nan) (0 ∷ []) .answer ≡ accepted (points ∷ 1 ∷ h ∷ [])
+    adaptiveLeft (fromTo x y) (0 ∷ []) identity ten ten (ofBits binary64 step) billionth (replicate 15 nan) (0 ∷ []) .answer ≡ accepted (points ∷ 1 ∷ h ∷ [])
 
 unfoldable pub paper : List Case
 paper =

@@ -1,4 +1,4 @@
--- The paper's proved cases of splicing, through the call itself.
+-- The paper's proved cases of splicing, through the call's own definition.
 use mathlib.Core.Path.{_≡_}
 use mathlib.Core.List.{List, [], _∷_}
 use Prim.Native.Nat.{ℕ, _*_}

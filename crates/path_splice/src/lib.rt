@@ -4,6 +4,7 @@ use path::Place;
 use path::counted;
 use path::end_of;
 use path::rising;
+use path_splice_links::ORDER;
 use path_splice_links::TODO;
 use path_splice_links::WORDS;
 use path_splice_links::thread;
@@ -231,7 +232,7 @@ fn draw(
     let n = starts.len();
     fill(points, starts, s);
     let c = thread(s, n);
-    let m = 2 * n;
+    let m = ORDER * n;
     let e = m + c;
     read_out(points, starts, &s[m..e], out_points, out_starts)
 }
@@ -317,7 +318,7 @@ fn draw_pairs(s: &mut [u32], n: usize, out_points: &mut [u32], out_starts: &mut 
 {
     fill_pairs(s, n);
     let c = thread(s, n);
-    let m = 2 * n;
+    let m = ORDER * n;
     let e = m + c;
     let t = WORDS * n;
     let h = 8 * n;

@@ -22,7 +22,7 @@ ghost use Rattle.refusal.specs.Limits.{mostStrokes};
 // Where the order, the links and what is to do begin, and where that ends, in words a stroke; the values lie from 0.
 pub const ORDER: usize = 2;
 
-pub const LINKS: usize = 4;
+const LINKS: usize = 4;
 
 pub const TODO: usize = 6;
 

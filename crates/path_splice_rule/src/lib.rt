@@ -2,7 +2,7 @@
 ghost use mathlib.Core.Path.{_≡_};
 ghost use Prim.Native.Nat.{_%_};
 ghost use lib.Dec.{eqb};
-ghost use Rattle.path_splice_rule.specs.Splice.{endOn, strokeOf, opposite as oppositeOf};
+ghost use Rattle.path_splice_rule.specs.Splice.{endOn, strokeOf, sideOf, opposite as oppositeOf};
 
 // An end of a stroke, by its number: 2 i is the first of stroke i, 2 i + 1 its last.
 pub struct Endpoint(pub usize);
@@ -28,7 +28,7 @@ impl Endpoint {
 
     // Whether it is its stroke's last.
     pub fn is_last(self) -> bool
-        ensures { λ r. ⌜ r ≡ eqb (self .0 % 2) 1 ⌝ }
+        ensures { λ r. ⌜ r ≡ eqb (sideOf (self .0)) 1 ⌝ }
     {
         self.0 % 2 == 1
     }

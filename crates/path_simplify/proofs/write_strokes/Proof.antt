@@ -1,6 +1,7 @@
 -- `write_strokes` meets its contract. Pushing the strokes from the i-th on from here leaves what pushing all leaves,
 -- and their distances and those measured are all; the strokes that are left fall.
 use borrow.Author.Needs.{needs}
+use Rattle.path_simplify.specs.InnerNotes.{notesLong}
 use Rattle.path_simplify.proofs.Totals.{thins-more, thins-none, more-points, more-distances, ends-in, short-in}
 use Rattle.path.proofs.Pushes.{push-turn, push-end, push-room, push-starts}
 use Rattle.path.specs.Strokes.{pointAt}
@@ -20,7 +21,7 @@ abbrev Inv-loop : tie.InvT-loop
 Inv-loop points starts threshold out-points₀ out-starts₀ kept₀ w₀ i₀ out-points out-starts kept w i = (i ≤ length starts) × (w .starts ≤ i) × (length out-points ≡ length out-points₀) × (length out-starts ≡ length out-starts₀)
     × (pushAll putPoints (out out-points out-starts (placesIn w)) (simplified (simplifiedOf threshold points (drop i starts))) ≡ pushAll putPoints (out out-points₀ out-starts₀ (placesIn w₀)) (simplified (simplifiedOf threshold points starts)))
     × (w .distances + distances (simplifiedOf threshold points (drop i starts)) ≡ distances (simplifiedOf threshold points starts))
-    × (length kept ≡ 4098)
+    × (length kept ≡ notesLong)
 
 abbrev μ-loop : tie.MeasureT-loop
 μ-loop points starts threshold out-points₀ out-starts₀ kept₀ w₀ i₀ out-points out-starts kept w i = length starts - i

@@ -1,4 +1,4 @@
--- `verdict` meets its contract.
+-- `splice_verdict` meets its contract.
 use mathlib.Core.Path.{sym, _∙_}
 use native.Mathlib.Omega.{arith}
 use borrow.Author.Needs.{needs}

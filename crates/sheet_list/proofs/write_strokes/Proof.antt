@@ -1,5 +1,5 @@
 -- `write_strokes` meets its contract. Writing the lines of the strokes from the i-th on from here leaves what writing
--- all leaves, and so far there are at most the bytes of the longest line a stroke; the strokes that are left fall.
+-- all leaves, and so far there are at most 0x17_0000_0000 bytes a stroke; the strokes that are left fall.
 use mathlib.Core.Path.{_≡_, refl}
 use Prim.Native.Nat.{_+_, _-_, _*_, _≤_}
 use native.Mathlib.Omega.{arith}

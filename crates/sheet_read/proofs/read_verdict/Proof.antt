@@ -1,4 +1,4 @@
--- `verdict` meets its contract: 9 before 6.
+-- `read_verdict` meets its contract: 9 before 6.
 use mathlib.Core.Path.{sym, _∙_}
 use borrow.Author.Tests.{not-true, not-false}
 use Rattle.refusal.specs.Refusals.{unless}

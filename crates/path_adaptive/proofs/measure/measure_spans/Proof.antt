@@ -7,7 +7,7 @@ use Rattle.path.specs.Strokes.{pointAt, gather}
 use Rattle.path_adaptive.proofs.Walks.{from-more, from-none}
 use Rattle.path_adaptive.proofs.Tallies.{spent-none, spent-join}
 use Rattle.path_adaptive.specs.Tally.{spent}
-use Rattle.path_adaptive.specs.Walk.{shownOf, walk, walkFrom}
+use Rattle.path_adaptive.specs.Walk.{mostHalvings, shownOf, walk, walkFrom}
 use Rattle.path_adaptive.specs.InnerMeasure.{tallyOf}
 use Prim.Native.Nat.{ℕ, _+_, _-_}
 use native.Mathlib.Omega.{arith}
@@ -50,7 +50,7 @@ loop-again c s =
     let t = tallyOf (l .loop .k) s in
     let m = from-more (a .view) (pointAt (a .points .now)) (l .loop .j) (a .e) (l .loop .p) q (search needs) (c .before .before .show .ensures ∙ ap (shownOf (a .view)) (c .before .before .before .point-at .ensures)) in
     let r = walkFrom (a .view) q (gather (pointAt (a .points .now)) (l .loop .j + 1) (a .e - (l .loop .j + 1))) in
-    ap (λ (x : Tally). spent x r) (c .measure-span .ensures s ∙ ap (λ (v : View). spent t (walk 64 v (l .loop .p) q)) (l .before .lens-of .ensures)) ∙ spent-join t _ r _ m ∙ l .loop .inv s
+    ap (λ (x : Tally). spent x r) (c .measure-span .ensures s ∙ ap (λ (v : View). spent t (walk mostHalvings v (l .loop .p) q)) (l .before .lens-of .ensures)) ∙ spent-join t _ r _ m ∙ l .loop .inv s
 
 returns : tie.Need-returns Inv-loop μ-loop
 returns c s =

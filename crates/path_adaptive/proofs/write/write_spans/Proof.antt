@@ -2,7 +2,7 @@
 -- what writing all leaves; the spans that are left fall.
 use borrow.Author.Needs.{needs}
 use Rattle.path.specs.Strokes.{pointAt, gather}
-use Rattle.path_adaptive.specs.Walk.{shownOf, walk, walkFrom}
+use Rattle.path_adaptive.specs.Walk.{mostHalvings, shownOf, walk, walkFrom}
 use Rattle.path_adaptive.specs.InnerSpan.{viewAt}
 use Rattle.path_adaptive.specs.InnerWrite.{Fits}
 use Rattle.path_adaptive.specs.declared.View.{View}
@@ -38,13 +38,13 @@ show-requires c κs = search needs
 -- the span at j, and then those after it, by the numbers of the screen
 turn : (c : tie.After-show Inv-loop μ-loop)
     → let l = c .before .before .before in let a = l .before .before .before .before .args in let q = c .show .result in
-    Both 0 (walk 64 (viewAt (l .before .lens-of .result)) (l .loop .p) q) (walkFrom (a .view) q (gather (pointAt (a .points .now)) (l .loop .j + 1) (a .e - (l .loop .j + 1)))) (walkFrom (a .view) (l .loop .p) (gather (pointAt (a .points .now)) (l .loop .j) (a .e - l .loop .j)))
+    Both 0 (walk mostHalvings (viewAt (l .before .lens-of .result)) (l .loop .p) q) (walkFrom (a .view) q (gather (pointAt (a .points .now)) (l .loop .j + 1) (a .e - (l .loop .j + 1)))) (walkFrom (a .view) (l .loop .p) (gather (pointAt (a .points .now)) (l .loop .j) (a .e - l .loop .j)))
 turn c =
     let l = c .before .before .before in
     let a = l .before .before .before .before .args in
     let q = c .show .result in
     let b = join-both _ _ _ (from-more (a .view) (pointAt (a .points .now)) (l .loop .j) (a .e) (l .loop .p) _ (search needs) (c .show .ensures ∙ ap (shownOf (a .view)) (c .before .point-at .ensures))) (l .loop .inv .1 .calm) in
-    subst (λ (v : View). Both 0 (walk 64 v (l .loop .p) q) (walkFrom (a .view) q (gather (pointAt (a .points .now)) (l .loop .j + 1) (a .e - (l .loop .j + 1)))) (walkFrom (a .view) (l .loop .p) (gather (pointAt (a .points .now)) (l .loop .j) (a .e - l .loop .j)))) (sym (l .before .lens-of .ensures)) b
+    subst (λ (v : View). Both 0 (walk mostHalvings v (l .loop .p) q) (walkFrom (a .view) q (gather (pointAt (a .points .now)) (l .loop .j + 1) (a .e - (l .loop .j + 1)))) (walkFrom (a .view) (l .loop .p) (gather (pointAt (a .points .now)) (l .loop .j) (a .e - l .loop .j)))) (sym (l .before .lens-of .ensures)) b
 
 write-span-requires : tie.Need-write-span-requires Inv-loop μ-loop
 write-span-requires c κs = left-fits (turn (c .before .before)) refl (omega arith) (c .before .before .before .before .before .loop .inv .1)
