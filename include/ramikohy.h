@@ -19,17 +19,19 @@
 extern "C" {
 #endif
 
-/* Refusals. The lowest that applies is given, but for two cases: in chop_adaptive ROOM and DEEP go to whichever the walk meets first, and
- * reading a sheet tests SHEET before ROOM. */
-#define RAMIKOHY_SHAPE 1   /* a list that is not one of triangles, points, pairs or strokes */
-#define RAMIKOHY_COUNT 2   /* a count above its limit, below */
-#define RAMIKOHY_VERTEX 3  /* a vertex number not below the vertex count */
-#define RAMIKOHY_NUMBER 4  /* a number outside its range, below, or a mode number above 3 */
-#define RAMIKOHY_SCRATCH 5 /* scratch too short */
-#define RAMIKOHY_ROOM 6    /* output too short, or a cut that would write over RAMIKOHY_MOST_POINTS */
-#define RAMIKOHY_FLAT 7    /* polygonal or silhouette: a face whose normal has computed length 0 */
-#define RAMIKOHY_DEEP 8    /* chop_adaptive would halve a span already 64 halvings deep */
-#define RAMIKOHY_SHEET 9   /* bytes that are not a sheet */
+/* Refusals. The lowest that applies is given, but for three cases: in chop_adaptive ROOM and DEEP go to whichever the walk meets first,
+ * reading a sheet tests SHEET before ROOM, and of ALIKE and NO_LENGTH the one that the lowest face at fault has is given. These two
+ * alone carry something, the number of that face. */
+#define RAMIKOHY_SHAPE 1      /* a list that is not one of triangles, points, pairs or strokes */
+#define RAMIKOHY_COUNT 2      /* a count above its limit, below */
+#define RAMIKOHY_VERTEX 3     /* a vertex number not below the vertex count */
+#define RAMIKOHY_NUMBER 4     /* a number outside its range, below, or a mode number above 3 */
+#define RAMIKOHY_SCRATCH 5    /* scratch too short */
+#define RAMIKOHY_ROOM 6       /* output too short, or a cut that would write over RAMIKOHY_MOST_POINTS */
+#define RAMIKOHY_ALIKE 7      /* polygonal or silhouette: a face that has two corners whose coordinates compare equal (-0 equals 0) */
+#define RAMIKOHY_DEEP 8       /* chop_adaptive would halve a span already 64 halvings deep */
+#define RAMIKOHY_SHEET 9      /* bytes that are not a sheet */
+#define RAMIKOHY_NO_LENGTH 10 /* polygonal or silhouette: a face with three different corners and a normal of computed length 0 */
 
 /* The status that says that there is none. No refusal has this number. */
 #define RAMIKOHY_NONE 255
@@ -69,9 +71,9 @@ double ramikohy_segment_distance(const double a[3], const double v[3], const dou
 void ramikohy_mul_position_w(const double m[16], const double a[3], double out[3]);
 
 /* The calls on lists. A list is a pointer and its length; a list of points has three doubles a point, a list of strokes
- * its points and the place of each stroke's first point. Each call answers a status, and how much it wrote goes to the
- * last parameters. An accepted call leaves scratch all zero, and output past what it wrote as it was; a refusal changes
- * nothing that is lent. */
+ * its points and the place of each stroke's first point. Each call answers a status, and how much it wrote goes to its
+ * last parameters, those of type `size_t *`. An accepted call leaves scratch all zero, and output past what it wrote as it
+ * was; a refusal changes nothing that is lent, but for the place of the face that it carries. */
 
 /* Strokes cut into steps. Output: what is written, and no more. Stack: 2,048 bytes. */
 uint32_t ramikohy_chop(const double *points, size_t points_len, const uint32_t *starts, size_t starts_len, double step,
@@ -113,12 +115,13 @@ uint32_t ramikohy_section(const double *vertices, size_t vertices_len, const uin
 
 /* The edges of a mesh that a mode keeps (1 triangles, 2 polygonal, 3 silhouette, and 0 is 1), as strokes of vertex numbers joined
  * end to end. `flips` has two face numbers a pair. Scratch: 64 words and 4 numbers a face. Output: 6 points and 3 starts a face.
- * Stack: 6,144 bytes. */
+ * RAMIKOHY_ALIKE and RAMIKOHY_NO_LENGTH write the lowest face at fault to `face`, counted from 0; an accepted call and every other refusal
+ * leave it as it was. Stack: 6,144 bytes. */
 uint32_t ramikohy_draw(const double *vertices, size_t vertices_len, const uint32_t *indices, size_t indices_len,
                        const uint32_t *flips, size_t flips_len, uint32_t mode, double cos_theta, const double eye[3],
                        double tolerance, uint32_t *scratch, size_t scratch_len, double *seen, size_t seen_len,
                        uint32_t *out_points, size_t out_points_len, uint32_t *out_starts, size_t out_starts_len,
-                       size_t *point_count, size_t *start_count);
+                       size_t *point_count, size_t *start_count, uint32_t *face);
 
 /* Strokes of vertex numbers as a sheet, of a mode (1 triangles, 2 polygonal, 3 silhouette, and 0 is 1) and so many vertices. An
  * empty stroke is not written. Output: the sheet's exact length, 24 bytes, and 4 for each stroke and for each point. A sheet holds no

@@ -102,6 +102,7 @@ unsafe extern "C" {
         out_starts_len: usize,
         point_count: *mut usize,
         start_count: *mut usize,
+        face: *mut u32,
     ) -> u32;
     pub fn ramikohy_chop_adaptive(
         points: *const f64,

@@ -1,6 +1,7 @@
 //! Why a call is refused.
 
-/// A refusal, in the order of the numbers. More may come, and some may come to carry what they found.
+/// A refusal, in the order of the numbers. `face` is the lowest face at fault, counted from 0. More refusals may come, and others may
+/// come to carry what they found.
 #[derive(Debug, Clone, Copy, PartialEq, Eq)]
 #[non_exhaustive]
 pub enum Refusal {
@@ -16,28 +17,17 @@ pub enum Refusal {
     Scratch,
     /// Output too short, or a cut that would write too many points.
     Room,
-    /// A face whose normal has computed length 0.
-    Flat,
+    /// A face that has two corners whose coordinates are equal; -0 equals 0.
+    Alike { face: u32 },
     /// A span halved too often.
     Deep,
     /// Bytes that are not a sheet.
     Sheet,
+    /// A face with three different corners and a normal of computed length 0.
+    NoLength { face: u32 },
 }
 
 impl Refusal {
-    /// Every refusal, in the order of the numbers.
-    pub const ALL: [Refusal; 9] = [
-        Refusal::Shape,
-        Refusal::Count,
-        Refusal::Vertex,
-        Refusal::Number,
-        Refusal::Scratch,
-        Refusal::Room,
-        Refusal::Flat,
-        Refusal::Deep,
-        Refusal::Sheet,
-    ];
-
     /// The number that the calls for C answer.
     pub fn number(self) -> u32 {
         match self {
@@ -47,13 +37,48 @@ impl Refusal {
             Refusal::Number => 4,
             Refusal::Scratch => 5,
             Refusal::Room => 6,
-            Refusal::Flat => 7,
+            Refusal::Alike { .. } => 7,
             Refusal::Deep => 8,
             Refusal::Sheet => 9,
+            Refusal::NoLength { .. } => 10,
         }
     }
 
-    /// What was wrong, in words.
+    /// The face at fault, counted from 0, where the refusal carries one.
+    pub fn face(self) -> Option<u32> {
+        match self {
+            Refusal::Alike { face } | Refusal::NoLength { face } => Some(face),
+            _ => None,
+        }
+    }
+
+    /// The refusal of a number, and of a face where it carries one: with no face to carry there is none.
+    ///
+    /// ```
+    /// use ramikohy::Refusal;
+    ///
+    /// let refusal = Refusal::of(7, Some(12)).unwrap();
+    /// assert_eq!((refusal.number(), refusal.face()), (7, Some(12)));
+    /// assert_eq!(refusal.to_string(), "refused 7: face 12 has two corners whose coordinates are equal");
+    /// assert_eq!(Refusal::of(6, Some(12)), Some(Refusal::Room));
+    /// assert_eq!(Refusal::of(7, None), None);
+    /// ```
+    pub fn of(number: u32, face: Option<u32>) -> Option<Refusal> {
+        let plain = [
+            Refusal::Shape,
+            Refusal::Count,
+            Refusal::Vertex,
+            Refusal::Number,
+            Refusal::Scratch,
+            Refusal::Room,
+            Refusal::Deep,
+            Refusal::Sheet,
+        ];
+        let of_face = face.map(|face| [Refusal::Alike { face }, Refusal::NoLength { face }]);
+        plain.into_iter().chain(of_face.into_iter().flatten()).find(|refusal| refusal.number() == number)
+    }
+
+    /// What was wrong, in words; of a refusal that carries a face, what that face has.
     fn words(self) -> &'static str {
         match self {
             Refusal::Shape => "a list is not one of triangles, points, pairs or strokes",
@@ -62,25 +87,32 @@ impl Refusal {
             Refusal::Number => "a number is outside its range, or a mode number above 3",
             Refusal::Scratch => "scratch is too short",
             Refusal::Room => "output is too short, or a cut would write over 1,048,576 points",
-            Refusal::Flat => "a face's normal has computed length 0",
+            Refusal::Alike { .. } => "has two corners whose coordinates are equal",
             Refusal::Deep => "a span would be halved more than 64 times",
             Refusal::Sheet => "the bytes are not a sheet",
+            Refusal::NoLength { .. } => "has three different corners and a normal of computed length 0",
         }
     }
 
-    /// Reads a status of the archive: accepted, or the refusal.
+    /// Reads a status of a call that has no place for a face: accepted, or the refusal.
     pub(crate) fn check(status: u32) -> Result<(), Refusal> {
+        Refusal::check_with(status, None)
+    }
+
+    /// The same of a call that has one, with what is there.
+    pub(crate) fn check_with(status: u32, face: Option<u32>) -> Result<(), Refusal> {
         if status == 0 {
             return Ok(());
         }
-        let named = Refusal::ALL.into_iter().find(|refusal| refusal.number() == status);
-        Err(named.expect("a status that the contracts permit"))
+        Err(Refusal::of(status, face).expect("a status that the contracts permit"))
     }
 }
 
 impl std::fmt::Display for Refusal {
     fn fmt(&self, f: &mut std::fmt::Formatter<'_>) -> std::fmt::Result {
-        write!(f, "refused {}: {}", self.number(), self.words())
+        write!(f, "refused {}: ", self.number())?;
+        self.face().iter().try_for_each(|face| write!(f, "face {face} "))?;
+        f.write_str(self.words())
     }
 }
 

@@ -1,5 +1,6 @@
 //! The Rattle source, the header for C and the declarations for Rust name the same functions, with the same parameters.
 
+use ramikohy::Refusal;
 use std::collections::BTreeMap;
 use std::path::Path;
 
@@ -120,11 +121,29 @@ fn defined(name: &str) -> String {
     line.split("/*").next().unwrap().trim().to_string()
 }
 
+/// A name of the enums as the header writes it: `NoLength` is `NO_LENGTH`.
+fn in_capitals(name: &str) -> String {
+    let parted = |(at, c): (usize, char)| if at > 0 && c.is_uppercase() { vec!['_', c] } else { vec![c] };
+    name.char_indices().flat_map(parted).collect::<String>().to_uppercase()
+}
+
 #[test]
-fn the_header_has_the_refusals_and_the_limits() {
-    for refusal in ramikohy::Refusal::ALL {
-        assert_eq!(defined(&format!("{refusal:?}").to_uppercase()), refusal.number().to_string());
+fn the_three_languages_have_the_same_refusals() {
+    let source = read("crates/refusal/src/lib.rt");
+    let arms = parts(&source, "Refusal::", ",").filter_map(|arm| arm.split_once(" => "));
+    let numbered: Vec<(&str, u32)> = arms.filter_map(|(name, number)| Some((name, number.parse().ok()?))).collect();
+    assert_eq!(numbered.len(), 10);
+    for (name, number) in numbered {
+        let (name, carries) = name.strip_suffix("(_)").map_or((name, false), |name| (name, true));
+        assert_eq!(defined(&in_capitals(name)), number.to_string());
+        let refusal = Refusal::of(number, Some(12)).unwrap();
+        assert_eq!(format!("{refusal:?}").split(' ').next(), Some(name));
+        assert_eq!(refusal.face(), carries.then_some(12), "{name}");
     }
+}
+
+#[test]
+fn the_header_has_the_limits() {
     let source = read("crates/refusal/src/lib.rt");
     let limits: Vec<&str> = parts(&source, "const MOST_", ";").collect();
     assert_eq!(limits.len(), 5);

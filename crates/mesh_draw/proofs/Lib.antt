@@ -1,4 +1,5 @@
 pub mod Tests
 pub mod Modes
 pub mod Draws
+pub mod Faults
 pub mod Unique

@@ -7,9 +7,9 @@ use lib.ListN.{length, getD}
 use lib.Dec.{eqb}
 use lib.Ieee.{Float}
 use Rattle.refusal.specs.declared.Refusal.{Refusal}
-use Rattle.refusal.specs.declared.Refusal.the-variants.{Shape, Count, Vertex, Number, Scratch, Room, Flat, Deep, Sheet}
-use Rattle.refusal.specs.Refusals.{numberOf}
+use Rattle.refusal.specs.declared.Verdict.the-variants.{Accepted}
 use Rattle.refusal.specs.Said.{Said}
+use Rattle.refusal.proofs.Unique.{not-zero}
 use Rattle.mesh.specs.Meshes.{faceAt}
 use Rattle.mesh_mode.specs.declared.Mode.{Mode}
 use Rattle.mesh_mode.specs.declared.Mode.the-variants.{Triangles}
@@ -20,23 +20,12 @@ use Rattle.mesh_mode.specs.Modes.{needsOf, modeOf, modeSaid}
 use Rattle.mesh_seen.specs.Seen.{flatFrom}
 use Rattle.mesh_draw.specs.Call.{namesMode, modeNamed, flatIn}
 
-no-zero : (r : Refusal) → false ≡ eqb (numberOf r) 0
-no-zero Shape = refl
-no-zero Count = refl
-no-zero Vertex = refl
-no-zero Number = refl
-no-zero Scratch = refl
-no-zero Room = refl
-no-zero Flat = refl
-no-zero Deep = refl
-no-zero Sheet = refl
-
 module _ (n : ℕ) (c : Float) (r : Moded) (e : modeSaid r ≡ modeOf n c) where
   pub good-mode : (m : Mode) → r ≡ Of m → true ≡ namesMode n c
   good-mode m t = ap (λ (s : Said Mode). eqb (s .number) 0) (ap modeSaid (sym t) ∙ e)
 
   pub bad-mode : (w : Refusal) → r ≡ Refused w → false ≡ namesMode n c
-  bad-mode w t = no-zero w ∙ ap (λ (s : Said Mode). eqb (s .number) 0) (ap modeSaid (sym t) ∙ e)
+  bad-mode w t = sym (not-zero w) ∙ ap (λ (s : Said Mode). eqb (s .number) 0) (ap modeSaid (sym t) ∙ e)
 
   pub mode-known : (m : Mode) → r ≡ Of m → m ≡ modeNamed n c
   mode-known m t = ap (λ (s : Said Mode). getD (s .values) 0 Triangles) (ap modeSaid (sym t) ∙ e)
@@ -49,6 +38,6 @@ module _ (mode : Mode) (n : Needs) (e : n ≡ needsOf mode) (vs : List Float) (i
   unfolding flatIn
   flat-needed t = rw (← e, t)
 
-  pub flat-spared : n .normals ≡ false → false ≡ flatIn mode vs is
+  pub flat-spared : n .normals ≡ false → Accepted ≡ flatIn mode vs is
   unfolding flatIn
   flat-spared t = rw (← e, t)

@@ -1,11 +1,11 @@
 -- The call: when a drawing is refused, what it answers, and what it leaves.
-use mathlib.Core.Bool.{Bool, false, not, _&&_}
+use mathlib.Core.Bool.{Bool, cond, _&&_}
 use mathlib.Core.List.{List, [], _∷_}
 use Prim.Native.Nat.{ℕ, _/_, _%_}
 use lib.ListN.{length, getD}
 use lib.Dec.{eqb}
 use lib.Ieee.{Float}
-use Rattle.refusal.specs.declared.Refusal.the-variants.{Shape, Count, Vertex, Number, Scratch, Room, Flat}
+use Rattle.refusal.specs.declared.Refusal.the-variants.{Shape, Count, Vertex, Number, Scratch, Room}
 use Rattle.refusal.specs.declared.Verdict.{Verdict}
 use Rattle.refusal.specs.declared.Verdict.the-variants.{Accepted}
 use Rattle.refusal.specs.Refusals.{unless}
@@ -66,12 +66,9 @@ paired numbers = eqb (numbers % 2) 0
 unfoldable pub numbersGood : List Float → Sight → Bool
 numbersGood vs s = coordinatesGood vs && namesMode (s .number) (s .cosine) && vectorGood (s .eye) && toleranceGood (s .tolerance)
 
--- whether a mode needs a normal that some face does not have
-unfoldable pub flatIn : Mode → List Float → List ℕ → Bool
-flatIn mode vs is = needsOf mode .normals && flatFrom (faceAt vs is) 0 (length is / 3)
-
-unfoldable pub flatVerdict : Mode → List Float → List ℕ → Verdict
-flatVerdict mode vs is = unless (not (flatIn mode vs is)) Flat Accepted
+-- where a mode needs normals, the first face that has none is refused
+unfoldable pub flatIn : Mode → List Float → List ℕ → Verdict
+flatIn mode vs is = cond (needsOf mode .normals) (flatFrom (faceAt vs is) 0 (length is / 3)) Accepted
 
 -- the tests of what a drawing works with and on
 unfoldable pub workVerdict : List Float → List ℕ → Sight → Lengths → Verdict
@@ -79,7 +76,7 @@ workVerdict vs is s l =
     unless (numbersGood vs s) Number
     (unless (scratchFor (length is / 3) (l .words) (l .seen)) Scratch
     (unless (roomFor (length is / 3) (l .points) (l .starts)) Room
-    (flatVerdict (modeNamed (s .number) (s .cosine)) vs is)))
+    (flatIn (modeNamed (s .number) (s .cosine)) vs is)))
 
 -- those of a mesh, with its list of flips, come before them
 unfoldable pub verdictOf : List Float → List ℕ → ℕ → Sight → Lengths → Verdict

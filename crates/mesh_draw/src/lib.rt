@@ -7,7 +7,7 @@ use mesh_mode::Mode;
 use mesh_mode::Moded;
 use mesh_mode::mode_of;
 use mesh_mode::needs_of;
-use mesh_seen::some_flat;
+use mesh_seen::flat_verdict;
 use mesh_strokes::draw_strokes;
 use mesh_strokes::room_for;
 use mesh_strokes::scratch_for;
@@ -77,8 +77,8 @@ fn numbers_good(vertices: &[f64], number: u32, cos_theta: f64, eye: Vector, tole
     tolerance_good(tolerance)
 }
 
-// Whether the mode needs a normal that some face does not have.
-fn flat_in(mode: Mode, vertices: &[f64], indices: &[u32]) -> bool
+// The verdict on the faces, where the mode needs normals: the first that has none decides.
+fn flat_in(mode: Mode, vertices: &[f64], indices: &[u32]) -> Verdict
     requires { ⌜ length (now indices) / 3 ≤ mostFaces ⌝ }
     requires { ⌜ allBelow (length (now vertices) / 3) (now indices) ≡ true ⌝ }
     ensures { λ r. ⌜ r ≡ flatIn mode (now (vertices .entry)) (now (indices .entry)) ⌝ }
@@ -86,9 +86,9 @@ fn flat_in(mode: Mode, vertices: &[f64], indices: &[u32]) -> bool
     let n = (indices.len() / 3) as u32;
     let needs = needs_of(mode);
     if needs.normals {
-        return some_flat(vertices, indices, n);
+        return flat_verdict(vertices, indices, n);
     }
-    false
+    Verdict::Accepted
 }
 
 // The tests of what a drawing works with and on. Nothing lent is touched.
@@ -117,10 +117,7 @@ fn work_verdict(
     if !room_for(indices.len() / 3, room, start_room) {
         return Verdict::Refused(Refusal::Room);
     }
-    if flat_in(mode_named(number, cos_theta), vertices, indices) {
-        return Verdict::Refused(Refusal::Flat);
-    }
-    Verdict::Accepted
+    flat_in(mode_named(number, cos_theta), vertices, indices)
 }
 
 // All tests before a drawing, the lowest number first.

@@ -1,19 +1,21 @@
 -- The definitions over faces, a face at a time, and what is read back of what was stored.
 use mathlib.Core.Path.{_≡_, refl, sym, ap, _∙_, subst}
 use mathlib.Core.Logic.{_⊎_, inl, inr, ⊎-elim}
-use mathlib.Core.Bool.{Bool, true, false, _||_}
+use mathlib.Core.Bool.{true, false}
 use mathlib.Core.List.{List, [], _∷_, _++_}
 use Prim.Native.Nat.{ℕ, zero, suc, _+_, _-_, _*_, _/_, _≤_, _<_}
 use native.Mathlib.Omega.{arith}
 use lib.ListN.{length, getD, set, length-set, drop, replicate}
 use lib.Seq.{getD-set-same, getD-set-other}
 use lib.Ieee.{Float, nan}
+use Rattle.refusal.specs.declared.Verdict.the-variants.{Accepted}
+use Rattle.refusal.specs.Refusals.{unless}
 use Rattle.vector.specs.declared.Vector.{Vector}
 use Rattle.vector.specs.Vectors.{subOf, dotOf}
 use Rattle.mesh.specs.declared.Triangle.{Triangle}
 use Rattle.mesh.specs.Meshes.{faceAt, reachOf}
 use Rattle.mesh_seen.specs.Normals.{flatOf, normalOf, facingOf}
-use Rattle.mesh_seen.specs.Seen.{flatFrom, someFlat, putSeen, seenFrom, seenAll, normalAt, facingAt}
+use Rattle.mesh_seen.specs.Seen.{faceVerdict, flatFrom, flatVerdict, putSeen, seenFrom, seenAll, normalAt, facingAt}
 
 -- ---- a list filled from the front
 fill-suc : {A : Type 0} (n : ℕ) (v : A) (d : List A) → n < length d → set (replicate n v ++ drop n d) n v ≡ replicate (suc n) v ++ drop (suc n) d
@@ -28,14 +30,14 @@ fill-more n v d l = let e : suc n ≡ n + 1 = omega arith in rw (← e) (fill-su
 -- ---- a face at a time
 module _ (at : ℕ → Triangle) where
   pub flat-more : (f n : ℕ) → f < n → flatOf (at f) ≡ false → flatFrom at f (n - f) ≡ flatFrom at (f + 1) (n - (f + 1))
-  unfolding flatFrom
+  unfolding flatFrom faceVerdict unless
   flat-more f n h e = let k : n - f ≡ suc (n - (f + 1)) = omega arith in rw (k, e)
 
-  pub flat-found : (f n : ℕ) → f < n → flatOf (at f) ≡ true → flatFrom at f (n - f) ≡ true
-  unfolding flatFrom
+  pub flat-found : (f n : ℕ) → f < n → flatOf (at f) ≡ true → flatFrom at f (n - f) ≡ faceVerdict (at f) f Accepted
+  unfolding flatFrom faceVerdict unless
   flat-found f n h e = let k : n - f ≡ suc (n - (f + 1)) = omega arith in rw (k, e)
 
-  pub flat-none : (f n : ℕ) → n ≤ f → flatFrom at f (n - f) ≡ false
+  pub flat-none : (f n : ℕ) → n ≤ f → flatFrom at f (n - f) ≡ Accepted
   unfolding flatFrom
   flat-none f n h = let k : n - f ≡ 0 = omega arith in rw k
 
@@ -146,8 +148,8 @@ module _ (eye : Vector) (at : ℕ → Triangle) where
 
 -- ---- where all corners are there
 module _ (vs : List Float) (is : List ℕ) (n : ℕ) (h : reachOf (length vs / 3) is n ≡ true) where
-  pub flat-there : someFlat vs is n ≡ flatFrom (faceAt vs is) 0 n
-  unfolding someFlat
+  pub flat-there : flatVerdict vs is n ≡ flatFrom (faceAt vs is) 0 n
+  unfolding flatVerdict
   flat-there = rw h
 
   pub seen-there : (eye : Vector) (l : List Float) → seenAll eye vs is n l ≡ seenFrom eye (faceAt vs is) 0 n l

@@ -1,3 +1,5 @@
 pub mod Normals
 pub mod Faces
 pub mod Alike
+pub mod Faults
+pub mod Unique

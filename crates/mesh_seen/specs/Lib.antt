@@ -1,2 +1,3 @@
 pub mod Normals
 pub mod Seen
+pub mod Faults

@@ -1,22 +1,29 @@
--- What is kept of each face while a mesh is drawn: four numbers a face, its normal and its dot with the eye.
-use mathlib.Core.Bool.{Bool, false, _&&_, _||_, cond}
+-- The first flat face, and what is kept of each face while a mesh is drawn: four numbers a face, its normal and its dot with the eye.
+use mathlib.Core.Bool.{not, cond}
 use mathlib.Core.List.{List}
 use Prim.Native.Nat.{ℕ, zero, suc, _+_, _*_, _/_}
 use lib.ListN.{length, getD, set}
 use lib.Ieee.{Float, nan}
+use Rattle.refusal.specs.declared.Verdict.{Verdict}
+use Rattle.refusal.specs.declared.Verdict.the-variants.{Accepted}
+use Rattle.refusal.specs.Refusals.{unless}
 use Rattle.vector.specs.declared.Vector.{Vector}
 use Rattle.mesh.specs.declared.Triangle.{Triangle}
 use Rattle.mesh.specs.Meshes.{faceAt, reachOf}
-use Rattle.mesh_seen.specs.Normals.{flatOf, normalOf, facingOf}
+use Rattle.mesh_seen.specs.Normals.{flatOf, flawOf, normalOf, facingOf}
 
--- whether one of the n faces from f on is flat
-unfoldable pub flatFrom : (ℕ → Triangle) → ℕ → ℕ → Bool
-flatFrom at f zero = false
-flatFrom at f (suc n) = flatOf (at f) || flatFrom at (f + 1) n
+-- the verdict on face f: it must have a normal
+unfoldable pub faceVerdict : Triangle → ℕ → Verdict → Verdict
+faceVerdict t f next = unless (not (flatOf t)) (flawOf t f) next
 
--- whether one of the first n faces is flat, where all their corners are there
-unfoldable pub someFlat : List Float → List ℕ → ℕ → Bool
-someFlat vs is n = reachOf (length vs / 3) is n && flatFrom (faceAt vs is) 0 n
+-- of the n faces from f on the first that is flat decides, whichever kind it is
+unfoldable pub flatFrom : (ℕ → Triangle) → ℕ → ℕ → Verdict
+flatFrom at f zero = Accepted
+flatFrom at f (suc n) = faceVerdict (at f) f (flatFrom at (f + 1) n)
+
+-- the verdict on the first n faces, where all their corners are there
+unfoldable pub flatVerdict : List Float → List ℕ → ℕ → Verdict
+flatVerdict vs is n = cond (reachOf (length vs / 3) is n) (flatFrom (faceAt vs is) 0 n) Accepted
 
 -- the four numbers of face t stored as those of face f; past the end nothing
 unfoldable pub putSeen : Vector → Triangle → List Float → ℕ → List Float

@@ -1,8 +1,10 @@
-// What is kept of each face while a mesh is drawn: its normal, and how it faces the eye.
+// The first face that has no normal, and what is kept of each face while a mesh is drawn: its normal, and how it faces the eye.
 use mesh::Triangle;
 use mesh::reaches;
 use path::number_at;
 use path::put;
+use refusal::Refusal;
+use refusal::Verdict;
 use vector::Vector;
 ghost use mathlib.Core.Path.{_≡_};
 ghost use mathlib.Core.Bool.{true};
@@ -10,8 +12,17 @@ ghost use Prim.Native.Nat.{_/_, _<_};
 ghost use lib.ListN.{length, getD, replicate};
 ghost use Rattle.vector.specs.Lengths.{zero64};
 ghost use Rattle.mesh.specs.Meshes.{cornerAt, faceAt, reachOf};
-ghost use Rattle.mesh_seen.specs.Normals.{acrossOf, flatOf, normalOf};
-ghost use Rattle.mesh_seen.specs.Seen.{flatFrom, someFlat, putSeen, seenFrom, seenAll, normalAt, facingAt};
+ghost use Rattle.refusal.specs.declared.Verdict.the-variants.{Accepted};
+ghost use Rattle.refusal.specs.Said.{verdictSaid};
+ghost use Rattle.mesh_seen.specs.Normals.{acrossOf, flatOf, alikeOf, normalOf, normalSaid, normalFound};
+ghost use Rattle.mesh_seen.specs.Seen.{faceVerdict, flatFrom, flatVerdict, putSeen, seenFrom, seenAll, normalAt, facingAt};
+
+// The normal of a face; or none, since two corners compare equal; or none of three different corners.
+pub enum FaceNormal {
+    Of(Vector),
+    Alike,
+    NoLength,
+}
 
 // The cross product of two sides of a face, which its normal has the direction of.
 fn across(t: Triangle) -> Vector
@@ -27,13 +38,50 @@ fn is_flat(t: Triangle) -> bool
     across(t).length_squared() == 0.0
 }
 
-// The normal of a face, normalised twice as the source's `normal` and its callers do.
-pub fn normal(t: Triangle) -> Vector
+// Whether two corners of a face compare equal.
+fn is_alike(t: Triangle) -> bool
+    ensures { λ r. ⌜ r ≡ alikeOf t ⌝ }
+{
+    if t.v1.equal(t.v2) {
+        return true;
+    }
+    if t.v1.equal(t.v3) {
+        return true;
+    }
+    t.v2.equal(t.v3)
+}
+
+// The cross product normalised twice, as the source's `normal` and its callers do; of a flat face no number comes out.
+fn twice_normalized(t: Triangle) -> Vector
     ensures { λ r. ⌜ r ≡ normalOf t ⌝ }
 {
     let n = across(t);
     let u = n.div_scalar(n.length());
     u.div_scalar(u.length())
+}
+
+// The normal of a face, or why it has none.
+pub fn normal(t: Triangle) -> FaceNormal
+    ensures { λ r. ⌜ normalSaid r ≡ normalFound t ⌝ }
+{
+    if !is_flat(t) {
+        return FaceNormal::Of(twice_normalized(t));
+    }
+    if is_alike(t) {
+        return FaceNormal::Alike;
+    }
+    FaceNormal::NoLength
+}
+
+// The verdict on face f, by what its normal answers.
+fn face_verdict(t: Triangle, f: u32) -> Verdict
+    ensures { λ r. ⌜ r ≡ faceVerdict t f Accepted ⌝ }
+{
+    match normal(t) {
+        FaceNormal::Of(_) => Verdict::Accepted,
+        FaceNormal::Alike => Verdict::Refused(Refusal::Alike(f)),
+        FaceNormal::NoLength => Verdict::Refused(Refusal::NoLength(f)),
+    }
 }
 
 // Corner k, which is there: nothing is tested.
@@ -63,27 +111,28 @@ fn face_in(vertices: &[f64], indices: &[u32], n: u32, f: u32) -> Triangle
     }
 }
 
-// Whether one of the first n faces, which are there, has no normal.
-fn flat_among(vertices: &[f64], indices: &[u32], n: u32) -> bool
+// The verdict on the first n faces, which are there: the first that has no normal decides.
+fn flat_among(vertices: &[f64], indices: &[u32], n: u32) -> Verdict
     requires { ⌜ reachOf (length (now vertices) / 3) (now indices) n ≡ true ⌝ }
     ensures { λ r. ⌜ r ≡ flatFrom (faceAt (now (vertices .entry)) (now (indices .entry))) 0 n ⌝ }
 {
     let mut f: u32 = 0;
     while f < n {
-        if is_flat(face_in(vertices, indices, n, f)) {
-            return true;
+        let t = face_in(vertices, indices, n, f);
+        if is_flat(t) {
+            return face_verdict(t, f);
         }
         f += 1;
     }
-    false
+    Verdict::Accepted
 }
 
-// Whether one of the first n faces has no normal, where all their corners are there.
-pub fn some_flat(vertices: &[f64], indices: &[u32], n: u32) -> bool
-    ensures { λ r. ⌜ r ≡ someFlat (now (vertices .entry)) (now (indices .entry)) n ⌝ }
+// The verdict on the first n faces, where all their corners are there.
+pub fn flat_verdict(vertices: &[f64], indices: &[u32], n: u32) -> Verdict
+    ensures { λ r. ⌜ verdictSaid r ≡ verdictSaid (flatVerdict (now (vertices .entry)) (now (indices .entry)) n) ⌝ }
 {
     if !reaches(indices, vertices.len() / 3, n) {
-        return false;
+        return Verdict::Accepted;
     }
     flat_among(vertices, indices, n)
 }
@@ -93,7 +142,7 @@ fn put_seen(t: Triangle, eye: Vector, out: &mut [f64], f: u32)
     ensures { λ _. ⌜ now (out .exit) ≡ putSeen eye t (now (out .entry)) f ⌝ }
 {
     let k = f as usize * 4;
-    let v = normal(t);
+    let v = twice_normalized(t);
     put(out, k, v.x);
     put(out, k + 1, v.y);
     put(out, k + 2, v.z);

@@ -16,7 +16,7 @@ use Rattle.sheet_write.specs.Call as O
 use Rattle.sheet_read.specs.Call as R
 use Rattle.ramikohy.specs.Points.{pointOf}
 use Rattle.ramikohy.specs.Status.{Valued, valued}
-use Rattle.ramikohy.specs.Calls.{Called, called}
+use Rattle.ramikohy.specs.Calls.{Called, called, Faced, faced}
 
 no : {A : Type 0} → ⊥ → A
 no = elim [ ]
@@ -72,10 +72,14 @@ one-weld x r t p q =
     let e = one-called x (r .0, r .1, W.lent (r .2) (r .3) (r .4)) (t .0, t .1, W.lent (t .2) (t .3) (t .4)) p q in
     λ i. (e i .0, e i .1, e i .2 .scratch, e i .2 .vertices, e i .2 .indices)
 
-pub one-draw : (x : Called D.Lent) → One (ℕ × List ℕ × List ℕ × List Float × List ℕ × List ℕ) (λ o. called (o .0) (o .1) (D.lent (o .2) (o .3) (o .4) (o .5)) ≡ x)
+-- draw has a place for a face besides
+one-faced : {L : Type 0} (x : Faced L) → One (ℕ × List ℕ × L × ℕ) (λ o. faced (called (o .0) (o .1) (o .2)) (o .3) ≡ x)
+one-faced = one-read (λ o. faced (called (o .0) (o .1) (o .2)) (o .3)) (λ r t e i. (e i .call .status, e i .call .counts, e i .call .lent, e i .face))
+
+pub one-draw : (x : Faced D.Lent) → One (ℕ × List ℕ × List ℕ × List Float × List ℕ × List ℕ × ℕ) (λ o. faced (called (o .0) (o .1) (D.lent (o .2) (o .3) (o .4) (o .5))) (o .6) ≡ x)
 one-draw x r t p q =
-    let e = one-called x (r .0, r .1, D.lent (r .2) (r .3) (r .4) (r .5)) (t .0, t .1, D.lent (t .2) (t .3) (t .4) (t .5)) p q in
-    λ i. (e i .0, e i .1, e i .2 .words, e i .2 .seen, e i .2 .points, e i .2 .starts)
+    let e = one-faced x (r .0, r .1, D.lent (r .2) (r .3) (r .4) (r .5), r .6) (t .0, t .1, D.lent (t .2) (t .3) (t .4) (t .5), t .6) p q in
+    λ i. (e i .0, e i .1, e i .2 .words, e i .2 .seen, e i .2 .points, e i .2 .starts, e i .3)
 
 pub one-writing : (x : Called O.Lent) → One (ℕ × List ℕ × List ℕ) (λ o. called (o .0) (o .1) (O.lent (o .2)) ≡ x)
 one-writing x r t p q = let e = one-called x (r .0, r .1, O.lent (r .2)) (t .0, t .1, O.lent (t .2)) p q in λ i. (e i .0, e i .1, e i .2 .bytes)

@@ -1,19 +1,23 @@
 // The calls on meshes for C and Rust. The result is the status, 0 or the refusal's number; the counts go out
-// through the last parameters, which a refusal leaves as they were.
+// through the last parameters, which a refusal leaves as they were, and behind them the face that a refusal carries.
 use crate::point;
 use mesh_draw::Drawing;
 use mesh_section::Plane;
 use mesh_section::Sectioned;
 use mesh_weld::Welded;
+use refusal::Carried;
+use refusal::Refusal;
 ghost use mathlib.Core.Path.{_≡_};
 ghost use mathlib.Core.List.{[], _∷_};
+ghost use lib.ListN.{getD};
+ghost use Rattle.refusal.specs.Refusals.{numberOf, carriedBy};
 ghost use Rattle.path.specs.Call.{lent};
 ghost use Rattle.mesh_weld.specs.Call.{lent as weldLent, weldLeft};
 ghost use Rattle.mesh_section.specs.Call.{sectionLeft};
 ghost use Rattle.mesh_strokes.specs.Call.{lent as drawLent};
 ghost use Rattle.mesh_draw.specs.Call.{sight, drawLeft};
 ghost use Rattle.ramikohy.specs.Points.{pointOf};
-ghost use Rattle.ramikohy.specs.Calls.{called, calledBy};
+ghost use Rattle.ramikohy.specs.Calls.{called, calledBy, faced, facedBy};
 
 // Welds the corners of faces.
 #[no_mangle]
@@ -77,7 +81,20 @@ pub extern "C" fn ramikohy_section(
     }
 }
 
-// Draws a mesh in the mode of a number.
+// The number of a refusal. The face that it carries goes to its place, which is left alone where it carries none.
+fn told(why: Refusal, face: &mut u32) -> u32
+    ensures { λ r. ⌜ (r ≡ numberOf why) × (now (face .exit) ≡ getD (carriedBy why) 0 (now (face .entry))) ⌝ }
+{
+    match refusal::carried_by(why) {
+        Carried::Face(f) => {
+            *face = f;
+            refusal::number(why)
+        }
+        Carried::Nothing => refusal::number(why),
+    }
+}
+
+// Draws a mesh in the mode of a number. A refusal for a flat face says which; nothing else touches the face's place.
 #[no_mangle]
 pub extern "C" fn ramikohy_draw(
     vertices: &[f64],
@@ -93,12 +110,13 @@ pub extern "C" fn ramikohy_draw(
     out_starts: &mut [u32],
     point_count: &mut usize,
     start_count: &mut usize,
+    face: &mut u32,
 ) -> u32
-    ensures { λ r. ⌜ called r (now («point_count» .exit) ∷ now («start_count» .exit) ∷ []) (drawLent (now (scratch .exit)) (now (seen .exit)) (now («out_points» .exit)) (now («out_starts» .exit)))
-        ≡ calledBy
+    ensures { λ r. ⌜ faced (called r (now («point_count» .exit) ∷ now («start_count» .exit) ∷ []) (drawLent (now (scratch .exit)) (now (seen .exit)) (now («out_points» .exit)) (now («out_starts» .exit)))) (now (face .exit))
+        ≡ facedBy
         (drawLeft (now (vertices .entry)) (now (indices .entry)) (now (flips .entry)) (sight mode «cos_theta» (pointOf (now (eye .entry))) tolerance)
         (drawLent (now (scratch .entry)) (now (seen .entry)) (now («out_points» .entry)) (now («out_starts» .entry))))
-        (now («point_count» .entry) ∷ now («start_count» .entry) ∷ []) ⌝ }
+        (now («point_count» .entry) ∷ now («start_count» .entry) ∷ []) (now (face .entry)) ⌝ }
 {
     let e = point(eye);
     match mesh_draw::draw(
@@ -122,6 +140,6 @@ pub extern "C" fn ramikohy_draw(
             *start_count = s;
             0
         }
-        Drawing::Refused(why) => refusal::number(why),
+        Drawing::Refused(why) => told(why, face),
     }
 }

@@ -1,11 +1,19 @@
--- The table of refusals: each number is given exactly when its line says, and the lowest that applies.
+-- The table of refusals: each number is given exactly when its line says, and the lowest that applies; between the two that carry a
+-- face the lowest face at fault decides.
 use mathlib.Core.Bool.{Bool, true, false}
-use mathlib.Core.List.{List, []}
+use mathlib.Core.List.{List, [], _∷_}
 use Prim.Native.Nat.{ℕ}
 use Rattle.refusal.specs.declared.Refusal.{Refusal}
-use Rattle.refusal.specs.declared.Refusal.the-variants.{Shape, Count, Vertex, Number, Scratch, Room, Flat, Deep, Sheet}
+use Rattle.refusal.specs.declared.Refusal.the-variants.{Shape, Count, Vertex, Number, Scratch, Room, Alike, Deep, Sheet, NoLength}
 use Rattle.refusal.specs.declared.Verdict.{Verdict}
 use Rattle.refusal.specs.declared.Verdict.the-variants.{Refused}
+
+-- a face with two corners whose coordinates compare equal; one with three different corners whose normal has computed length 0
+abbrev pub alikeNumber : ℕ
+alikeNumber = 7
+
+abbrev pub noLengthNumber : ℕ
+noLengthNumber = 10
 
 abbrev pub numberOf : Refusal → ℕ
 numberOf Shape = 1  -- a list that is no list of triangles, points, pairs or strokes
@@ -14,13 +22,23 @@ numberOf Vertex = 3  -- a vertex number not below the vertex count
 numberOf Number = 4  -- a number outside its range
 numberOf Scratch = 5  -- scratch too short
 numberOf Room = 6  -- output too short, or a cut of too many points
-numberOf Flat = 7  -- a face whose normal has computed length 0
+numberOf (Alike face) = alikeNumber
 numberOf Deep = 8  -- a span halved too often
 numberOf Sheet = 9  -- bytes that are not a sheet
+numberOf (NoLength face) = noLengthNumber
 
--- what a refusal carries beside its number: nothing
+-- what a refusal carries beside its number: the face at fault, those two alone
 abbrev pub carriedBy : Refusal → List ℕ
-carriedBy r = []
+carriedBy Shape = []
+carriedBy Count = []
+carriedBy Vertex = []
+carriedBy Number = []
+carriedBy Scratch = []
+carriedBy Room = []
+carriedBy (Alike face) = face ∷ []
+carriedBy Deep = []
+carriedBy Sheet = []
+carriedBy (NoLength face) = face ∷ []
 
 -- a test that must hold, and the refusal where it does not, before the tests that follow
 unfoldable pub unless : Bool → Refusal → Verdict → Verdict

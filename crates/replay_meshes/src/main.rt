@@ -1,13 +1,14 @@
 // Works the stored rows of draw, weld and section out by the proved crates, and counts those whose answer is another.
 //
 // A row is words of hexadecimal digits with a space between: the call's number, the status, how many numbers each list has, the
-// other numbers, the lists and, where the call is accepted, its counts and what it wrote. What is lent holds a pattern, so that
-// what must stay is seen. A row that is no row of a call counts as one that differs.
+// other numbers, the lists and, where the call is accepted, its counts and what it wrote, or else the face that the refusal carries, if
+// it carries one. What is lent holds a pattern, so that what must stay is seen. A row that is no row of a call counts as one that differs.
 use libc::STDIN_FILENO;
 use mesh_draw::Drawing;
 use mesh_section::Plane;
 use mesh_section::Sectioned;
 use mesh_weld::Welded;
+use refusal::Carried;
 use replay_rows::Answer;
 use replay_rows::DIRT;
 use replay_rows::GRIT;
@@ -23,6 +24,7 @@ use replay_rows::scratch_left;
 use replay_rows::seen_left;
 use replay_rows::size;
 use replay_rows::take_byte;
+use replay_rows::word;
 use replay_rows::wrote;
 use vector::Vector;
 
@@ -47,6 +49,30 @@ fn draw_answer(answer: Drawing) -> Answer {
             starts: s,
         } => wrote(p, s),
         Drawing::Refused(why) => refused(refusal::number(why)),
+    }
+}
+
+// The face that a drawing's refusal carries, if it carries one.
+fn draw_carried(answer: Drawing) -> Carried {
+    match answer {
+        Drawing::Wrote {
+            points: _,
+            starts: _,
+        } => Carried::Nothing,
+        Drawing::Refused(why) => refusal::carried_by(why),
+    }
+}
+
+// How many words of a row are what the refusal carries; none where the row has another word there.
+fn carried_words(page: &[u64; 256], at: usize, carried: Carried) -> usize {
+    match carried {
+        Carried::Face(f) => {
+            if word(page, at) == f as u64 {
+                return 1;
+            }
+            0
+        }
+        Carried::Nothing => 0,
     }
 }
 
@@ -91,7 +117,8 @@ fn draw_leaves(
         &mut marks[..],
     );
     let a = draw_answer(answer);
-    drawing_left(page, at, a, &scratch[..], &seen[..], &out[..], &marks[..])
+    let next = past(at, carried_words(page, at, draw_carried(answer)));
+    drawing_left(page, next, a, &scratch[..], &seen[..], &out[..], &marks[..])
 }
 
 fn draw_agrees(page: &[u64; 256]) -> bool {

@@ -2,8 +2,8 @@
 //! line. The programs `replay`, `replay_strokes`, `replay_meshes` and `replay_sheets` work them out by the proved crates.
 //!
 //! A row is words of hexadecimal digits with one space between: the call's number, the status, how many numbers each list of
-//! the input has, the other numbers, the lists and, where the status is 0, the counts and what was written. Every list that is
-//! lent has [`LENT`] elements; a drawing's have their own lengths, `DRAWN`.
+//! the input has, the other numbers, the lists and, where the status is 0, the counts and what was written; where it is 7 or 10, the
+//! face. Every list that is lent has [`LENT`] elements; a drawing's have their own lengths, `DRAWN`.
 
 use crate::calls::strokes::bits;
 use crate::calls::{Left, Lent, adaptive, chop, draw, read_sheet, section, simplify, splice, weld, write_sheet};
@@ -27,6 +27,9 @@ const ROWS: usize = 300;
 /// How many rows more have a span that is halved too often, which few random inputs have.
 const DEEP_ROWS: usize = 20;
 
+/// How many rows more have a flat face, of each kind.
+const FLAT_ROWS: usize = 30;
+
 /// Every row of a call that `replay` is run on, the same each time.
 pub fn rows() -> Vec<String> {
     let mut random = Random::new(2);
@@ -43,6 +46,8 @@ pub fn mesh_rows() -> Vec<String> {
     all.extend(made(&mut random, draw_row));
     all.extend(made(&mut random, weld_row));
     all.extend(made(&mut random, section_row));
+    all.extend(made(&mut random, alike_row).into_iter().take(FLAT_ROWS));
+    all.extend(made(&mut random, no_length_row).into_iter().take(FLAT_ROWS));
     all
 }
 
@@ -74,7 +79,7 @@ fn made(random: &mut Random, row: fn(&mut Random) -> Option<Vec<u64>>) -> Vec<St
 
 /// What is lent: as long as it is in `replay`, with something in it.
 fn lent<P: Copy>(fill: P) -> Lent<P> {
-    Lent { scratch: vec![7; LENT], numbers: Vec::new(), points: vec![fill; LENT], starts: vec![7; LENT] }
+    Lent { scratch: vec![7; LENT], points: vec![fill; LENT], starts: vec![7; LENT], ..Lent::default() }
 }
 
 fn words(list: &[u32]) -> impl Iterator<Item = u64> + '_ {
@@ -119,22 +124,39 @@ fn splice_row(random: &mut Random) -> Option<Vec<u64>> {
     row(22, &[input.points.len(), input.starts.len()], lists, &splice::judged(&input), 1)
 }
 
-/// None where two vertices have the same coordinates: the original's points have no numbers.
 fn draw_row(random: &mut Random) -> Option<Vec<u64>> {
+    drawing_row(draw::make_any(random))
+}
+
+/// A row of status 7: the lowest flat face has two equal corners.
+fn alike_row(random: &mut Random) -> Option<Vec<u64>> {
+    drawing_row(draw::make_flat(random)).filter(|row| row[1] == 7)
+}
+
+/// A row of status 10: it has three.
+fn no_length_row(random: &mut Random) -> Option<Vec<u64>> {
+    drawing_row(draw::make_flat(random)).filter(|row| row[1] == 10)
+}
+
+/// None where two vertices have the same coordinates: the original's points have no numbers. With no place of a face before, there is
+/// one afterwards where a face is at fault.
+fn drawing_row(input: draw::Input) -> Option<Vec<u64>> {
     let [words_lent, numbers, points, starts] = DRAWN;
     let lent = Lent {
         scratch: vec![7; words_lent],
         numbers: vec![bits(9.0); numbers],
         points: vec![7; points],
         starts: vec![7; starts],
+        face: None,
     };
-    let input = draw::Input { lent, ..draw::make(random) };
+    let input = draw::Input { lent, ..input };
     let (sizes, left) = ([input.vertices.len(), input.indices.len(), input.flips.len()], draw::judged(&input));
     let sight = [input.mode as u64, bits(input.cos_theta)].into_iter().chain(reals(&input.eye));
     let sight = sight.chain([bits(input.tolerance)]);
     let mesh = reals(&input.vertices).chain(words(&input.indices)).chain(words(&input.flips));
+    let lists = sight.chain(mesh).chain(left.lent.face.map(u64::from)).collect();
     let told_apart = left.status != 0 || draw::all_apart(&input);
-    row(1, &sizes, sight.chain(mesh).collect(), &left, 1).filter(|_| told_apart)
+    row(1, &sizes, lists, &left, 1).filter(|_| told_apart)
 }
 
 fn weld_row(random: &mut Random) -> Option<Vec<u64>> {
@@ -186,7 +208,7 @@ fn write_sheet_row(random: &mut Random) -> Option<Vec<u64>> {
 
 fn read_sheet_row(random: &mut Random) -> Option<Vec<u64>> {
     let [points, starts] = READ;
-    let lent = Lent { scratch: vec![], numbers: vec![], points: vec![7; points], starts: vec![7; starts] };
+    let lent = Lent { points: vec![7; points], starts: vec![7; starts], ..Lent::default() };
     let input = read_sheet::Input { lent, ..read_sheet::make(random) };
     let bytes = input.bytes.iter().map(|&b| b as u64).collect();
     row(2, &[input.bytes.len()], bytes, &read_sheet::judged(&input), 1)

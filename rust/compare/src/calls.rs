@@ -21,14 +21,22 @@ use crate::runs::Seen;
 use ramikohy::Refusal;
 use std::fmt::Debug;
 
-/// What a call is lent to write to: scratch of words and of numbers (by their bits), and room for points and starts. A
-/// weld's room is for vertices and indices.
+/// What a call is lent to write to: scratch of words and of numbers (by their bits), room for points and starts, and the place of a
+/// face, which a drawing alone has. A weld's room is for vertices and indices.
 #[derive(Clone, PartialEq, Debug)]
 pub struct Lent<P> {
     pub scratch: Vec<u32>,
     pub numbers: Vec<u64>,
     pub points: Vec<P>,
     pub starts: Vec<u32>,
+    pub face: Option<u32>,
+}
+
+/// Nothing.
+impl<P> Default for Lent<P> {
+    fn default() -> Self {
+        Lent { scratch: Vec::new(), numbers: Vec::new(), points: Vec::new(), starts: Vec::new(), face: None }
+    }
 }
 
 /// What a call leaves: its status, its counts (points, starts, and what else it reports), and all that it was lent.
@@ -43,6 +51,11 @@ impl<P: Copy> Lent<P> {
     /// A refusal changes nothing and carries nothing.
     pub fn refused(&self, status: u32) -> Left<P> {
         Left { status, counts: Vec::new(), lent: self.clone() }
+    }
+
+    /// A refusal for a face changes the place of that face alone.
+    pub fn refused_for(&self, status: u32, face: u32) -> Left<P> {
+        Left { status, counts: Vec::new(), lent: Lent { face: Some(face), ..self.clone() } }
     }
 
     /// An accepted call lays the strokes out at the start of its room, leaves the rest of it alone, and clears scratch.
@@ -61,11 +74,14 @@ impl<P: Copy> Lent<P> {
     }
 }
 
-/// What a call left that answered so.
+/// What a call left that answered so; the face that a refusal carries stands in its place.
 pub fn left<P, const N: usize>(answer: Result<[usize; N], Refusal>, lent: Lent<P>) -> Left<P> {
     match answer {
         Ok(counts) => Left { status: 0, counts: counts.to_vec(), lent },
-        Err(why) => Left { status: why.number(), counts: Vec::new(), lent },
+        Err(why) => {
+            let face = why.face().or(lent.face);
+            Left { status: why.number(), counts: Vec::new(), lent: Lent { face, ..lent } }
+        }
     }
 }
 
@@ -116,12 +132,7 @@ pub fn run<I: Debug, P: PartialEq + Debug>(
     let mut random = Random::new(seed);
     for input in always.chain((0..count).map(|_| make(&mut random))) {
         let (theirs, ours) = (judged(&input), port(&input));
-        seen.cases += 1;
-        seen.refused += (theirs.status != 0) as u64;
-        if theirs != ours {
-            seen.differ += 1;
-            seen.first.get_or_insert_with(|| format!("{input:?}: {theirs:?} but {ours:?}"));
-        }
+        seen.case(theirs.status, theirs == ours, || format!("{input:?}: {theirs:?} but {ours:?}"));
     }
     seen
 }
@@ -140,5 +151,5 @@ pub fn dirty<P>(random: &mut Random, lengths: [usize; 3], point: impl Fn(u64) ->
     let mut words = |n: usize| (0..n).map(|_| random.bits() as u32).collect();
     let (scratch, starts) = (words(lengths[0]), words(lengths[2]));
     let points = (0..lengths[1]).map(|_| point(random.bits())).collect();
-    Lent { scratch, numbers: Vec::new(), points, starts }
+    Lent { scratch, points, starts, ..Lent::default() }
 }

@@ -12,6 +12,8 @@ pub mod calls;
 pub mod crowded;
 pub mod cuts;
 pub mod numbers;
+#[cfg(original)]
+pub mod panics;
 pub mod random;
 pub mod reading;
 pub mod rows;

@@ -7,9 +7,10 @@ pub const VERTEX: u32 = 3;
 pub const NUMBER: u32 = 4;
 pub const SCRATCH: u32 = 5;
 pub const ROOM: u32 = 6;
-pub const FLAT: u32 = 7;
+pub const ALIKE: u32 = 7;
 pub const DEEP: u32 = 8;
 pub const SHEET: u32 = 9;
+pub const NO_LENGTH: u32 = 10;
 
 const MOST_FACES: usize = 65_536;
 const MOST_VERTICES: usize = 196_608;
@@ -138,6 +139,11 @@ pub fn draw(vertices: &[f64], indices: &[u32], flips: &[u32], view: &View, lent:
         (lent[0] >= 64 * faces && lent[1] >= 4 * faces, SCRATCH),
         (lent[2] >= 6 * faces && lent[3] >= 3 * faces, ROOM),
     ])
+}
+
+/// What a face without a normal is refused for: two of its corners have coordinates that compare equal, or none have.
+pub fn flat([a, b, c]: [[f64; 3]; 3]) -> u32 {
+    if a == b || b == c || c == a { ALIKE } else { NO_LENGTH }
 }
 
 /// What a section is refused for, by the plane's point and normal, and room for coordinates and starts.

@@ -3,21 +3,41 @@
 use crate::arithmetic::{FUNCTIONS, Function, MOST_OPERANDS};
 use crate::numbers::SPECIAL;
 use crate::random::Random;
+use std::collections::BTreeMap;
 
 /// What a run came to.
 #[derive(Debug, Default)]
 pub struct Seen {
     pub cases: u64,
-    /// Cases that both sides refused, or answered that there is none.
-    pub refused: u64,
+    /// Cases that must be refused, or answered that there is none, by their status.
+    pub refused: BTreeMap<u32, u64>,
     pub differ: u64,
     /// The first case that differs, in words.
     pub first: Option<String>,
 }
 
+impl Seen {
+    /// Counts a case of this status; one that differs is said in words.
+    pub fn case(&mut self, status: u32, same: bool, words: impl FnOnce() -> String) {
+        self.cases += 1;
+        if status != 0 {
+            *self.refused.entry(status).or_default() += 1;
+        }
+        if !same {
+            self.differ += 1;
+            self.first.get_or_insert_with(words);
+        }
+    }
+}
+
 impl std::fmt::Display for Seen {
     fn fmt(&self, f: &mut std::fmt::Formatter<'_>) -> std::fmt::Result {
-        write!(f, "{} cases, {} without a value, {} differ", self.cases, self.refused, self.differ)?;
+        let by_status: Vec<String> = self.refused.iter().map(|(status, count)| format!("{status}: {count}")).collect();
+        write!(f, "{} cases, {} without a value", self.cases, self.refused.values().sum::<u64>())?;
+        if !by_status.is_empty() {
+            write!(f, " ({})", by_status.join(", "))?;
+        }
+        write!(f, ", {} differ", self.differ)?;
         self.first.iter().try_for_each(|case| write!(f, "\n  first: {case}"))
     }
 }
@@ -70,12 +90,7 @@ fn triples() -> impl Iterator<Item = [f64; 3]> {
 #[cfg(original)]
 fn judge(function: &Function, operands: &[f64], seen: &mut Seen) {
     let (theirs, ours) = ((function.original)(operands), (function.port)(operands));
-    seen.cases += 1;
-    seen.refused += (theirs.status != 0) as u64;
-    if !function.same(theirs, ours) {
-        seen.differ += 1;
-        seen.first.get_or_insert_with(|| format!("{operands:?}: {theirs:x?} but {ours:x?}"));
-    }
+    seen.case(theirs.status, function.same(theirs, ours), || format!("{operands:?}: {theirs:x?} but {ours:x?}"));
 }
 
 /// Where the original is missing there is nothing to judge by.

@@ -3,10 +3,11 @@
 
 use compare::calls::{Left, Lent, adaptive, chop, draw, read_sheet, section, simplify, splice, weld, write_sheet};
 use compare::random::Random;
+use std::collections::BTreeMap;
 
 /// Room for plenty, with something in it.
 fn plenty<P: Copy>(fill: P) -> Lent<P> {
-    Lent { scratch: vec![7; 128], numbers: vec![7; 8], points: vec![fill; 96], starts: vec![9; 16] }
+    Lent { scratch: vec![7; 128], numbers: vec![7; 8], points: vec![fill; 96], starts: vec![9; 16], face: None }
 }
 
 /// The points that were written, and where their strokes start.
@@ -117,24 +118,50 @@ fn drawings_of_the_rules() {
     assert_eq!(square(3, 0.0, [5.0, 5.0, 0.0], &[]), triangles);
 }
 
-/// A drawing of one face of three corners.
-fn face(indices: [u32; 3], mode: u32) -> Left<u32> {
+/// A drawing of faces on some vertices.
+fn faces(vertices: &[[f64; 3]], list: &[[u32; 3]], mode: u32) -> Left<u32> {
     draw::judged(&draw::Input {
-        vertices: vec![0.0, 0.0, 0.0, 1.0, 0.0, 0.0, 0.0, 1.0, 0.0],
-        indices: indices.to_vec(),
+        vertices: vertices.concat(),
+        indices: list.concat(),
         flips: Vec::new(),
         mode,
         cos_theta: 0.0,
         eye: [0.0; 3],
         tolerance: 1e-9,
-        lent: plenty(5),
+        lent: Lent { scratch: vec![7; 256], numbers: vec![7; 16], face: Some(99), ..plenty(5) },
     })
 }
 
 #[test]
 fn faces_of_the_rules() {
-    assert_eq!(written(&face([0, 1, 2], 1), 1), (vec![1, 0, 2, 1], vec![0]));
-    assert_eq!([1, 2, 3].map(|mode| face([0, 0, 1], mode).status), [0, 7, 7]);
+    let vertices = [[0.0, 0.0, 0.0], [1.0, 0.0, 0.0], [0.0, 1.0, 0.0]];
+    assert_eq!(written(&faces(&vertices, &[[0, 1, 2]], 1), 1), (vec![1, 0, 2, 1], vec![0]));
+    let twice = [1, 2, 3].map(|mode| faces(&vertices, &[[0, 0, 1]], mode));
+    assert_eq!(twice.map(|left| (left.status, left.lent.face)), [(0, Some(99)), (7, Some(0)), (7, Some(0))]);
+}
+
+/// The lowest flat face and its kind, by the original's vectors; that the original dies of each is asked by the judge.
+#[test]
+fn flat_faces_of_the_rules() {
+    let least = 2f64.powi(-269);
+    let one = |corners: [[f64; 3]; 3]| {
+        let [polygonal, silhouette] = [2, 3].map(|mode| faces(&corners, &[[0, 1, 2]], mode));
+        assert_eq!(polygonal, silhouette);
+        (polygonal.status, polygonal.lent.face)
+    };
+    assert_eq!(one([[0.0, 0.0, 0.0], [-0.0, 0.0, -0.0], [1.0, 0.0, 0.0]]), (7, Some(0)));
+    assert_eq!(one([[5.0, 1.0, 0.0], [3.0, 0.1, 0.0], [3.0, 0.1, 0.0]]), (7, Some(0)));
+    assert_eq!(one([[0.0, 0.0, 0.0], [1.0, 1.0, 1.0], [2.0, 2.0, 2.0]]), (10, Some(0)));
+    assert_eq!(one([[0.0, 0.0, 0.0], [least, 0.0, 0.0], [0.0, least, 0.0]]), (10, Some(0)));
+    assert_eq!(one([[0.0, 0.0, 0.0], [least, 0.0, 0.0], [0.0, 2.0 * least, 0.0]]), (0, Some(99)));
+    assert_eq!(one([[1.0, 1.0, 0.0], [0.0, 0.0, 0.0], [1e-20, 0.0, 0.0]]), (10, Some(0)));
+    let corners = [[0.0, 0.0, 0.0], [1.0, 0.0, 0.0], [1.0, 1.0, 0.0], [0.0, 1.0, 0.0], [2.0, 0.0, 0.0]];
+    let lowest = |list: [[u32; 3]; 4]| {
+        let left = faces(&corners, &list, 2);
+        (left.status, left.lent.face)
+    };
+    assert_eq!(lowest([[0, 1, 2], [0, 2, 3], [0, 1, 4], [1, 1, 2]]), (10, Some(2)));
+    assert_eq!(lowest([[0, 1, 2], [1, 1, 2], [0, 2, 3], [0, 1, 4]]), (7, Some(1)));
 }
 
 #[test]
@@ -166,10 +193,48 @@ fn random_inputs_meet_every_refusal_that_they_can() {
     assert_eq!(met(simplify::make, simplify::judged), [0, 1, 4, 6]);
     assert_eq!(met(adaptive::make, adaptive::judged), [0, 1, 4, 6, 8]);
     assert_eq!(met(weld::make, weld::judged), [0, 1, 4, 5, 6]);
-    assert_eq!(met(draw::make, draw::judged), [0, 1, 3, 4, 5, 6, 7]);
+    assert_eq!(met(draw::make, draw::judged), [0, 1, 3, 4, 5, 6, 7, 10]);
     assert_eq!(met(section::make, section::judged), [0, 1, 3, 4, 6]);
     assert_eq!(met(write_sheet::make, write_sheet::judged), [0, 1, 2, 3, 4, 6]);
     assert_eq!(met(read_sheet::make, read_sheet::judged), [0, 6, 9]);
+}
+
+/// What a random drawing may have to do with flat faces, all of which must come often.
+fn notable(input: &draw::Input) -> Vec<&'static str> {
+    let left = draw::judged(input);
+    let tiny = input.vertices.iter().any(|&x| x != 0.0 && x.abs() < 1e-80);
+    if left.status == 0 && input.mode >= 2 && tiny {
+        return vec!["sides about as short as can be, none flat"];
+    }
+    let (true, Some(at)) = ([7, 10].contains(&left.status), left.lent.face) else { return vec![] };
+    let face = &input.indices[at as usize * 3..][..3];
+    let corner = |i: usize| &input.vertices[face[i] as usize * 3..][..3];
+    let pairs = [(0, 1), (1, 2), (2, 0)].into_iter().filter(|&(i, j)| corner(i) == corner(j));
+    let numbered_apart = |(i, j): (usize, usize)| face[i] != face[j];
+    let by_sign = |(i, j): (usize, usize)| corner(i).iter().zip(corner(j)).any(|(x, y)| x.to_bits() != y.to_bits());
+    let others = draw::flats(input).any(|(_, status)| status != left.status);
+    let all = [
+        (left.status == 7, "two corners alike"),
+        (left.status == 7 && others, "two corners alike, and one of the other kind behind"),
+        (left.status == 10, "three corners"),
+        (left.status == 10 && others, "three corners, and one of the other kind behind"),
+        (left.status == 10 && tiny, "three corners too near"),
+        (pairs.clone().any(numbered_apart), "corners alike that have two numbers"),
+        (pairs.clone().any(by_sign), "corners alike but for the sign of a zero"),
+        (at > 0, "not the first face"),
+    ];
+    all.into_iter().filter(|(is_so, _)| *is_so).map(|(_, what)| what).collect()
+}
+
+#[test]
+fn random_drawings_meet_flat_faces_of_every_kind() {
+    let mut random = Random::new(7);
+    let mut seen = BTreeMap::<&str, u32>::new();
+    for _ in 0..20_000 {
+        notable(&draw::make(&mut random)).into_iter().for_each(|what| *seen.entry(what).or_default() += 1);
+    }
+    println!("{seen:?}");
+    assert!(seen.len() == 9 && seen.values().all(|&n| n >= 100), "{seen:?}");
 }
 
 /// The sheet of [1,0,2,1] with 3 vertices, written and read by the rules alone; mode 0 is stored as 1, an empty stroke is not.
@@ -202,7 +267,7 @@ fn every_splice_of_the_original_is_sound() {
 fn every_drawing_of_the_original_is_sound() {
     let mut random = Random::new(6);
     let mut accepted = 0;
-    for input in draw::all_small().chain((0..20_000).map(|_| draw::make(&mut random))) {
+    for input in draw::all_small().chain(draw::all_flat()).chain((0..20_000).map(|_| draw::make(&mut random))) {
         let left = draw::judged(&input);
         if left.status == 0 && draw::all_apart(&input) {
             assert!(draw::is_sound(&input, &left), "{input:?}");

@@ -14,6 +14,8 @@ pub enum Role {
     Out { by: usize, width: usize, need: Option<usize> },
     /// The place of a count or a value, the k-th of which has the number k.
     Place,
+    /// The place of the face that a refusal carries.
+    Face,
 }
 
 /// A buffer: its elements' bytes, and the bytes of an element.
@@ -119,6 +121,11 @@ impl Buffer {
         Buffer::dirty(Role::Place, size_of::<T>(), 1)
     }
 
+    /// The place of a face.
+    pub fn face() -> Buffer {
+        Buffer::dirty(Role::Face, size_of::<u32>(), 1)
+    }
+
     /// How many elements it has.
     pub fn len(&self) -> usize {
         self.bytes.len() / self.size
@@ -135,6 +142,11 @@ impl Buffer {
         bytes.resize(len * self.size, 0xA5);
         Buffer { bytes, ..*self }
     }
+}
+
+/// The numbers of a list of bytes.
+pub fn reals(bytes: &[u8]) -> Vec<f64> {
+    bytes.chunks_exact(8).map(|b| f64::from_ne_bytes(b.try_into().expect("eight bytes"))).collect()
 }
 
 /// The words of a list of bytes.

@@ -28,9 +28,12 @@ pub struct Call {
     pub refusals: &'static [u32],
     pub buffers: Vec<Buffer>,
     pub work: Work,
-    /// What else must hold of an accepted call.
+    /// What else must hold of an accepted call, and of one that is refused for a face.
     pub sound: Sound,
 }
+
+/// The refusals that carry a face.
+const FOR_A_FACE: [u32; 2] = [7, 10];
 
 /// Hands a C function its buffers by their numbers: `[k]` is a list, a pointer and its length, `(k)` a pointer alone, `{x}` a number.
 macro_rules! handed {
@@ -92,7 +95,7 @@ impl Call {
         Call { name, refusals, buffers, work: Box::new(work), sound: Box::new(|_, _| {}) }
     }
 
-    /// The same with something more that must hold of it where it is accepted.
+    /// The same with something more that must hold of it where it is accepted or refused for a face.
     pub fn sound(self, sound: impl Fn(&Call, &Left) + Send + Sync + 'static) -> Call {
         Call { sound: Box::new(sound), ..self }
     }
@@ -166,15 +169,16 @@ impl Call {
         left
     }
 
-    /// What must hold of every answer: a refusal changes nothing; an accepted call changes no input, leaves scratch zero, and
-    /// room past what it wrote as it was.
+    /// What must hold of every answer: a refusal changes nothing but the place of a face that it carries; an accepted call changes no
+    /// input and no such place, leaves scratch zero, and room past what it wrote as it was.
     fn held(&self, buffers: &[Buffer], left: &Left) {
         let (name, status) = (self.name, left.answer.status);
         assert!(status == 0 || self.refusals.contains(&status), "{name}: status {status}");
         for (at, (before, after)) in buffers.iter().zip(&left.bytes).enumerate() {
             let kept = match before.role {
+                Role::Face if FOR_A_FACE.contains(&status) => after.len(),
                 _ if status != 0 => 0,
-                Role::In => 0,
+                Role::In | Role::Face => 0,
                 Role::Out { .. } => self.ends_at(at, left) * before.size,
                 Role::Scratch { .. } => {
                     assert!(after.iter().all(|&b| b == 0), "{name}: scratch {at} is not zero");
@@ -191,10 +195,13 @@ impl Call {
     /// `short`-th of the buffers that it needs. Answers the status of the first.
     pub fn try_all(&self, short: usize) -> u32 {
         let left = self.tried(&self.buffers);
-        if left.answer.status != 0 {
-            return left.answer.status;
+        let status = left.answer.status;
+        if status == 0 || FOR_A_FACE.contains(&status) {
+            (self.sound)(self, &left);
         }
-        (self.sound)(self, &left);
+        if status != 0 {
+            return status;
+        }
         let exact: Vec<Buffer> =
             self.buffers.iter().enumerate().map(|(at, b)| b.resized(self.needs(at, &left))).collect();
         if exact.iter().zip(&self.buffers).any(|(a, b)| a.len() != b.len()) {

@@ -141,18 +141,30 @@ fn sections() -> Vec<Large> {
 }
 
 fn drawings() -> Vec<Large> {
-    let of = |faces: usize, mode: u32| {
-        let (vertices, indices) = sheet_of_faces(faces);
+    let of = |(vertices, indices): (Vec<f64>, Vec<u32>), mode: u32| {
+        let faces = indices.len() / 3;
         let flips: Vec<u32> = (0..faces as u32).collect();
         let sight = Sight { mode, cos_theta: 0.9, eye: [-40.0, -50.0, 9.0], tolerance: 1e-9 };
         meshes::draw_of(&vertices, &indices, &flips[..faces / 2 * 2], sight, 0)
     };
+    let whole = || sheet_of_faces(MOST_FACES);
     vec![
-        large("65,536 faces, triangles", of(MOST_FACES, 1), 0),
-        large("65,536 faces, polygonal", of(MOST_FACES, 2), 0),
-        large("65,536 faces, silhouette", of(MOST_FACES, 3), 0),
-        large("one more", of(MOST_FACES + 1, 3), 2),
+        large("65,536 faces, triangles", of(whole(), 1), 0),
+        large("65,536 faces, polygonal", of(whole(), 2), 0),
+        large("65,536 faces, silhouette", of(whole(), 3), 0),
+        large("one more", of(sheet_of_faces(MOST_FACES + 1), 3), 2),
+        large("65,536 faces, the last with two corners alike", of(last_flat(1), 2), 7),
+        large("65,536 faces, the last with three on a line", of(last_flat(2), 3), 10),
     ]
+}
+
+/// The sheet with its last face on three more vertices, which lie on a line: the third corner is the `last` of them.
+fn last_flat(last: u32) -> (Vec<f64>, Vec<u32>) {
+    let (mut vertices, mut indices) = sheet_of_faces(MOST_FACES - 1);
+    let more = vertices.len() as u32 / 3;
+    vertices.extend([0.0, 0.0, 0.0, 1.0, 0.0, 0.0, 2.0, 0.0, 0.0]);
+    indices.extend([more, more + 1, more + last]);
+    (vertices, indices)
 }
 
 fn sheets() -> Vec<Large> {

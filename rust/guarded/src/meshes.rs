@@ -1,6 +1,6 @@
 //! The calls on meshes.
 
-use crate::buffer::{Buffer, Slice, words};
+use crate::buffer::{Buffer, Slice, reals, words};
 use crate::call::{Call, Left, handed, status};
 use crate::sound;
 use crate::source::Source;
@@ -67,13 +67,35 @@ pub fn draw_of(vertices: &[f64], indices: &[u32], flips: &[u32], sight: Sight, m
     buffers.extend([Buffer::input(&sight.eye), Buffer::scratch::<u32>(64 * faces, more)]);
     buffers.extend([Buffer::scratch::<f64>(4 * faces, more), Buffer::room::<u32>(0, 1, 6 * faces, more)]);
     buffers.push(Buffer::room::<u32>(1, 1, 3 * faces, more));
-    buffers.extend([(); 2].map(|()| Buffer::place::<usize>()));
+    buffers.extend([Buffer::place::<usize>(), Buffer::place::<usize>(), Buffer::face()]);
     let Sight { mode, cos_theta, tolerance, .. } = sight;
     let work = move |b: &[Slice]| {
-        status(handed!(ramikohy_draw, b, [0] [1] [2] {mode} {cos_theta} (3) {tolerance} [4] [5] [6] [7] (8) (9)))
+        status(handed!(ramikohy_draw, b, [0] [1] [2] {mode} {cos_theta} (3) {tolerance} [4] [5] [6] [7] (8) (9) (10)))
     };
-    let sound = move |call: &Call, left: &Left| is_drawing(call, left, mode);
-    Call::new("ramikohy_draw", &[1, 2, 3, 4, 5, 6, 7], buffers, work).sound(sound)
+    let sound = move |call: &Call, left: &Left| match left.answer.status {
+        0 => is_drawing(call, left, mode),
+        why => is_at_fault(left, why),
+    };
+    Call::new("ramikohy_draw", &[1, 2, 3, 4, 5, 6, 7, 10], buffers, work).sound(sound)
+}
+
+/// The face that is refused is the first whose normal has no length; by 7 two of its corners are equal, by 10 none are.
+fn is_at_fault(left: &Left, why: u32) {
+    let (vertices, indices, face) = (reals(&left.bytes[0]), words(&left.bytes[1]), words(&left.bytes[10])[0]);
+    let at = |v: u32| [0, 1, 2].map(|k| vertices[v as usize * 3 + k]);
+    let corners = |f: &[u32]| [at(f[0]), at(f[1]), at(f[2])];
+    let faces: Vec<[[f64; 3]; 3]> = indices.chunks_exact(3).map(corners).collect();
+    assert_eq!(faces.iter().position(|&f| is_flat(f)), Some(face as usize), "another face is at fault");
+    let [a, b, c] = faces[face as usize];
+    assert_eq!(why == 7, a == b || b == c || c == a, "at fault for something else");
+}
+
+/// Whether two sides of a face have a cross product of length 0.
+fn is_flat([a, b, c]: [[f64; 3]; 3]) -> bool {
+    let sub = |p: [f64; 3], q: [f64; 3]| [p[0] - q[0], p[1] - q[1], p[2] - q[2]];
+    let (u, v) = (sub(b, a), sub(c, a));
+    let n = [u[1] * v[2] - u[2] * v[1], u[2] * v[0] - u[0] * v[2], u[0] * v[1] - u[1] * v[0]];
+    (n[0] * n[0] + n[1] * n[1] + n[2] * n[2]).sqrt() == 0.0
 }
 
 /// Each pair that is drawn is a side of a face, and drawn once; in triangles every side is; and no pen lift is too many.

@@ -2,11 +2,13 @@
 
 use guarded::buffer::Slice;
 use guarded::call::{Answer, Call};
+use guarded::meshes::draw_of;
 use guarded::pages::Side;
 use guarded::rows::{self, Row};
 use guarded::source::{Source, Strokes, random_bytes};
 use guarded::strokes::{chop_of, splice_of};
 use guarded::{CALLS, arithmetic, largest};
+use ramikohy::Sight;
 use std::collections::{BTreeMap, BTreeSet};
 use std::os::unix::process::ExitStatusExt;
 use std::path::Path;
@@ -44,7 +46,7 @@ fn every_function_keeps_to_what_it_is_lent() {
     assert_eq!(statuses("ramikohy_simplify"), [0, 1, 2, 4]);
     assert_eq!(statuses("ramikohy_weld"), [0, 1, 4]);
     assert_eq!(statuses("ramikohy_section"), [0, 1, 3, 4]);
-    assert_eq!(statuses("ramikohy_draw"), [0, 1, 3, 4, 7]);
+    assert_eq!(statuses("ramikohy_draw"), [0, 1, 3, 4, 7, 10]);
     assert_eq!(statuses("ramikohy_write_sheet"), [0, 1, 2, 3, 4]);
     assert_eq!(statuses("ramikohy_read_sheet"), [0, 9]);
 }
@@ -159,6 +161,40 @@ fn a_wrong_function_is_seen() {
     assert!(!is_seen(refused(6, false)), "a refusal that splice has");
     assert!(is_seen(refused(6, true)), "a refusal that changes something");
     assert!(is_seen(refused(0, false)), "nothing done");
+}
+
+/// A square of two faces and a third face, drawn in a mode.
+fn with_third(third: [u32; 3], mode: u32) -> Call {
+    let vertices = [0.0, 0.0, 0.0, 1.0, 0.0, 0.0, 1.0, 1.0, 0.0, 0.0, 1.0, 0.0, 2.0, 0.0, 0.0];
+    let sight = Sight { mode, cos_theta: 0.0, eye: [0.0, 0.0, 5.0], tolerance: 1e-9 };
+    draw_of(&vertices, &[&[0, 1, 2, 0, 2, 3][..], &third].concat(), &[], sight, 1)
+}
+
+/// The same with another answer, and something else in the place of a face.
+fn told(third: [u32; 3], mode: u32, status: Option<u32>, face: Option<u32>) -> Call {
+    let work = move |b: &[Slice]| {
+        let answer = (with_third(third, mode).work)(b);
+        // SAFETY: it is the place of a face.
+        face.iter().for_each(|&face| unsafe { *b[10].to() = face });
+        Answer { status: status.unwrap_or(answer.status), ..answer }
+    };
+    Call { work: Box::new(work), ..with_third(third, mode) }
+}
+
+/// The wrong face, or a face where none belongs, is seen.
+#[test]
+fn a_wrong_face_is_seen() {
+    let (twice, line) = ([1, 1, 2], [0, 1, 4]);
+    assert_eq!([twice, line].map(|third| with_third(third, 2).try_all(0)), [7, 10]);
+    assert!(!is_seen(told(twice, 1, None, None)));
+    assert!(is_seen(told(twice, 1, None, Some(2))), "a face with an accepted drawing");
+    assert!(is_seen(told(twice, 2, Some(4), None)), "a face with a refusal that carries none");
+    assert!(is_seen(told(twice, 2, None, Some(u32::MAX))), "a face that there is not");
+    assert!(is_seen(told(twice, 2, None, Some(1))), "another face");
+    assert!(is_seen(told(line, 2, None, Some(3))), "one past the last");
+    assert!(is_seen(told(line, 2, None, Some(0))), "a face that has a normal");
+    assert!(is_seen(told(twice, 2, Some(10), None)), "two corners alike as three");
+    assert!(is_seen(told(line, 2, Some(7), None)), "three corners as two alike");
 }
 
 /// A chop that rewrites the first NaN of its room with the same value, in another pattern: refused, and accepted with that room past

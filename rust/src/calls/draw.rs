@@ -45,7 +45,7 @@ pub struct Sight {
 }
 
 /// The strokes of vertex numbers that draw a mesh. A flip is a pair of faces, the smaller first, whose shared edge a silhouette
-/// keeps where it would not, and the other way round.
+/// keeps where it would not, and the other way round. Triangles draws flat faces; the other modes refuse the lowest of them, by its number.
 ///
 /// ```
 /// use ramikohy::{Mesh, Mode, Refusal, draw};
@@ -63,11 +63,15 @@ pub struct Sight {
 /// assert_eq!(points(Mode::Silhouette(1.0), above, &[]), triangles);
 /// assert_eq!(points(Mode::Silhouette(0.0), [5.0, 5.0, 0.0], &[]), triangles);
 ///
-/// let flat = Mesh { faces: vec![[0, 0, 1]], ..square.clone() };
-/// let drawn = |mode| draw(&flat, &[], mode, above, 1e-9);
-/// assert!(drawn(Mode::Triangles).is_ok());
-/// assert_eq!(drawn(Mode::Polygonal), Err(Refusal::Flat));
-/// assert_eq!(drawn(Mode::Silhouette(0.0)), Err(Refusal::Flat));
+/// let mut flat = Mesh { faces: vec![[0, 0, 1]], ..square.clone() };
+/// assert!(draw(&flat, &[], Mode::Triangles, above, 1e-9).is_ok());
+/// for mode in [Mode::Polygonal, Mode::Silhouette(0.0)] {
+///     assert_eq!(draw(&flat, &[], mode, above, 1e-9), Err(Refusal::Alike { face: 0 }));
+/// }
+///
+/// flat.vertices.push([2.0, 0.0, 0.0]);
+/// flat.faces = vec![[0, 1, 2], [0, 1, 4], [0, 0, 1]];
+/// assert_eq!(draw(&flat, &[], Mode::Polygonal, above, 1e-9), Err(Refusal::NoLength { face: 1 }));
 /// ```
 pub fn draw(
     mesh: &Mesh,
@@ -118,7 +122,7 @@ pub fn lent(
     out_points: &mut [u32],
     out_starts: &mut [u32],
 ) -> Result<Wrote, Refusal> {
-    let mut wrote = Wrote::default();
+    let (mut wrote, mut face) = (Wrote::default(), 0);
     // SAFETY: each list is a pointer with its length, and what is written overlaps with nothing else.
     let status = unsafe {
         c::ramikohy_draw(
@@ -142,8 +146,9 @@ pub fn lent(
             out_starts.len(),
             &mut wrote.points,
             &mut wrote.starts,
+            &mut face,
         )
     };
-    Refusal::check(status)?;
+    Refusal::check_with(status, Some(face))?;
     Ok(wrote)
 }

@@ -4,7 +4,7 @@ use mathlib.Core.Path.{sym, ap, _∙_}
 use borrow.Author.Tests.{not-true, not-false}
 use Rattle.refusal.specs.Refusals.{unless}
 use Rattle.mesh_mode.specs.declared.Mode.{Mode}
-use Rattle.mesh_draw.specs.Call.{flatIn, flatVerdict, workVerdict}
+use Rattle.mesh_draw.specs.Call.{flatIn, workVerdict}
 use Rattle.mesh_draw.proofs.work_verdict.Statement.{statement}
 use Rattle.mesh_draw.proofs.work_verdict.Tie as tie
 
@@ -36,18 +36,11 @@ flat-in-requires : tie.Need-flat-in-requires
 flat-in-requires c κs = search needs
 
 returns-4 : tie.Need-returns-4
-unfolding workVerdict flatVerdict unless
+unfolding workVerdict unless
 returns-4 c =
-    let a = c .before .before .before .before .before .before .before .before .before .before .before .args in
-    let e = sym (c .before .flat-in .ensures ∙ ap (λ (m : Mode). flatIn m (a .vertices .now) (a .indices .now)) (c .before .before .mode-named .ensures)) ∙ c .if4 .taken in
-    simp (sym (c .before .before .before .before .before .before .before .before .numbers-good .ensures) ∙ not-false _ (c .before .before .before .before .before .before .before .if1 .left), sym (c .before .before .before .before .before .before .scratch-for .ensures) ∙ not-false _ (c .before .before .before .before .before .if2 .left), sym (c .before .before .before .before .room-for .ensures) ∙ not-false _ (c .before .before .before .if3 .left), e)
-
-returns-5 : tie.Need-returns-5
-unfolding workVerdict flatVerdict unless
-returns-5 c =
-    let a = c .before .before .before .before .before .before .before .before .before .before .before .args in
-    let e = sym (c .before .flat-in .ensures ∙ ap (λ (m : Mode). flatIn m (a .vertices .now) (a .indices .now)) (c .before .before .mode-named .ensures)) ∙ c .if4 .left in
-    simp (sym (c .before .before .before .before .before .before .before .before .numbers-good .ensures) ∙ not-false _ (c .before .before .before .before .before .before .before .if1 .left), sym (c .before .before .before .before .before .before .scratch-for .ensures) ∙ not-false _ (c .before .before .before .before .before .if2 .left), sym (c .before .before .before .before .room-for .ensures) ∙ not-false _ (c .before .before .before .if3 .left), e)
+    let a = c .before .before .before .before .before .before .before .before .before .before .args in
+    let e = c .flat-in .ensures ∙ ap (λ (m : Mode). flatIn m (a .vertices .now) (a .indices .now)) (c .before .mode-named .ensures) in
+    simp (sym (c .before .before .before .before .before .before .before .numbers-good .ensures) ∙ not-false _ (c .before .before .before .before .before .before .if1 .left), sym (c .before .before .before .before .before .scratch-for .ensures) ∙ not-false _ (c .before .before .before .before .if2 .left), sym (c .before .before .before .room-for .ensures) ∙ not-false _ (c .before .before .if3 .left)) e
 
 pub work-verdict-spec : {M : Type 1} → statement M
 work-verdict-spec =
@@ -61,5 +54,4 @@ work-verdict-spec =
     returns-3
     mode-named-requires
     flat-in-requires
-    returns-4
-    returns-5)
+    returns-4)

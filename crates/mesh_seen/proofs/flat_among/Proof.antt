@@ -1,12 +1,13 @@
--- `flat_among` meets its contract. Among the faces from f on one is flat where one of all is; the faces that are left
--- fall.
+-- `flat_among` meets its contract. The verdict on the faces from f on is that on all; the faces that are left fall.
 use borrow.Author.Needs.{needs}
 use mathlib.Core.Path.{_≡_, refl, sym, ap, _∙_}
 use Prim.Native.Nat.{_-_, _≤_}
 use native.Mathlib.Omega.{arith}
+use Rattle.refusal.specs.declared.Verdict.the-variants.{Accepted}
+use Rattle.mesh.specs.declared.Triangle.{Triangle}
 use Rattle.mesh.specs.Meshes.{faceAt}
 use Rattle.mesh_seen.specs.Normals.{flatOf}
-use Rattle.mesh_seen.specs.Seen.{flatFrom}
+use Rattle.mesh_seen.specs.Seen.{faceVerdict, flatFrom}
 use Rattle.mesh_seen.proofs.Faces.{flat-more, flat-found, flat-none}
 use Rattle.mesh_seen.proofs.flat_among.Statement.{statement}
 use Rattle.mesh_seen.proofs.flat_among.Tie as tie
@@ -26,13 +27,18 @@ face-in-requires c κs = search needs
 is-flat-requires : tie.Need-is-flat-requires Inv-loop μ-loop
 is-flat-requires c κs = search needs
 
+face-verdict-requires : tie.Need-face-verdict-requires Inv-loop μ-loop
+face-verdict-requires c κs = search needs
+
 returns : tie.Need-returns Inv-loop μ-loop
 returns c =
-    let l = c .before .before .before .before .loop in
-    let a = c .before .before .before .before .before .before .before .args in
+    let l = c .before .before .before .before .before .loop in
+    let a = c .before .before .before .before .before .before .before .before .args in
     let at = faceAt (a .vertices .now) (a .indices .now) in
-    let e = ap flatOf (sym (c .before .before .face-in .ensures)) ∙ sym (c .before .is-flat .ensures) ∙ c .if1 .taken in
-    sym (flat-found at (l .f) (a .n) (c .before .before .before .loop-test .taken) e) ∙ l .inv .1
+    let t = c .before .before .before .face-in .ensures in
+    let e = ap flatOf (sym t) ∙ sym (c .before .before .is-flat .ensures) ∙ c .before .if1 .taken in
+    c .face-verdict .ensures ∙ ap (λ (x : Triangle). faceVerdict x (l .f) Accepted) t
+    ∙ sym (flat-found at (l .f) (a .n) (c .before .before .before .before .loop-test .taken) e) ∙ l .inv .1
 
 add-f : tie.Need-add-f Inv-loop μ-loop
 add-f c = omega (arith, c .before .before .before .loop-test .taken)
@@ -63,6 +69,7 @@ flat-among-spec =
     loop-holds
     face-in-requires
     is-flat-requires
+    face-verdict-requires
     returns
     add-f
     loop-less

@@ -1,35 +1,31 @@
--- `normal` meets its contract.
-use Rattle.mesh_seen.proofs.Normals.{twice}
+-- `normal` meets its contract: first whether the length is 0, then which kind.
 use borrow.Author.Needs.{needs}
+use mathlib.Core.Path.{sym, _∙_}
+use borrow.Author.Tests.{not-true, not-false}
+use Rattle.mesh_seen.specs.Normals.{normalFound}
 use Rattle.mesh_seen.proofs.normal.Statement.{statement}
 use Rattle.mesh_seen.proofs.normal.Tie as tie
 
-across-requires : tie.Need-across-requires
-across-requires c κs = search needs
+is-flat-requires : tie.Need-is-flat-requires
+is-flat-requires c κs = search needs
 
-length-requires : tie.Need-length-requires
-length-requires c κs = search needs
-
-div-scalar-requires : tie.Need-div-scalar-requires
-div-scalar-requires c κs = search needs
-
-length-requires-2 : tie.Need-length-requires-2
-length-requires-2 c κs = search needs
-
-div-scalar-requires-2 : tie.Need-div-scalar-requires-2
-div-scalar-requires-2 c κs = search needs
+twice-normalized-requires : tie.Need-twice-normalized-requires
+twice-normalized-requires c κs = search needs
 
 returns : tie.Need-returns
-returns c =
-    twice (c .before .before .before .before .before .args .t) _ _ _ _ _ (c .before .before .before .before .across .ensures) (c .before .before .before .length .ensures) (c .before .before .div-scalar .ensures) (c .before .length2 .ensures) (c .div-scalar2 .ensures)
+unfolding normalFound
+returns c = rw (sym (c .before .before .is-flat .ensures) ∙ not-true _ (c .before .if1 .taken), c .twice-normalized .ensures)
+
+is-alike-requires : tie.Need-is-alike-requires
+is-alike-requires c κs = search needs
+
+returns-2 : tie.Need-returns-2
+unfolding normalFound
+returns-2 c = rw (sym (c .before .before .before .is-flat .ensures) ∙ not-false _ (c .before .before .if1 .left), sym (c .before .is-alike .ensures) ∙ c .if2 .taken)
+
+returns-3 : tie.Need-returns-3
+unfolding normalFound
+returns-3 c = rw (sym (c .before .before .before .is-flat .ensures) ∙ not-false _ (c .before .before .if1 .left), sym (c .before .is-alike .ensures) ∙ c .if2 .left)
 
 pub normal-spec : {M : Type 1} → statement M
-normal-spec =
-    tie.close
-    (tie.spec
-    across-requires
-    length-requires
-    div-scalar-requires
-    length-requires-2
-    div-scalar-requires-2
-    returns)
+normal-spec = tie.close (tie.spec is-flat-requires twice-normalized-requires returns is-alike-requires returns-2 returns-3)

@@ -7,8 +7,8 @@ use Rattle.mesh_seen.proofs.put_seen.Tie as tie
 mul-k : tie.Need-mul-k
 mul-k c = search needs
 
-normal-requires : tie.Need-normal-requires
-normal-requires c κs = search needs
+twice-normalized-requires : tie.Need-twice-normalized-requires
+twice-normalized-requires c κs = search needs
 
 put-requires : tie.Need-put-requires
 put-requires c κs = search needs
@@ -43,7 +43,7 @@ same-length c = search needs
 returns : tie.Need-returns
 returns c =
     let a = c .before .before .before .before .before .before .before .before .before .before .before .before .before .before .before .before .before .before .before .before .args in
-    stored (a .eye) (a .t) (a .f) (a .out .now) _ _ _ _ _ _ _ (c .before .before .before .before .before .before .before .before .before .before .before .before .before .before .before .before .before .before .normal .ensures) (c .before .before .before .before .sub .ensures) (c .before .before .before .dot .ensures)
+    stored (a .eye) (a .t) (a .f) (a .out .now) _ _ _ _ _ _ _ (c .before .before .before .before .before .before .before .before .before .before .before .before .before .before .before .before .before .before .twice-normalized .ensures) (c .before .before .before .before .sub .ensures) (c .before .before .before .dot .ensures)
     (c .before .before .before .before .before .before .before .before .before .before .before .before .before .before .before .before .put .ensures) (c .before .before .before .before .before .before .before .before .before .before .before .before .put2 .ensures) (c .before .before .before .before .before .before .before .before .put3 .ensures) (c .before .before .put4 .ensures)
 
 pub put-seen-spec : {M : Type 1} → statement M
@@ -51,7 +51,7 @@ put-seen-spec =
     tie.close
     (tie.spec
     mul-k
-    normal-requires
+    twice-normalized-requires
     put-requires
     add-put
     put-requires-2

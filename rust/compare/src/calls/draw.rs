@@ -3,6 +3,7 @@
 use super::mesh::{self, mostly};
 use super::strokes::bits;
 use super::{Left, Lent, any_pattern, dirty, patterns, room};
+use crate::panics;
 use crate::random::Random;
 use crate::reading::{self, View};
 use crate::runs::Seen;
@@ -21,13 +22,31 @@ pub struct Input {
     pub lent: Lent<u32>,
 }
 
-/// A random input: squares, books and any meshes, with faces over again; an eye in a face's plane now and then.
+/// A random input, with anything in the place of a face.
 pub fn make(random: &mut Random) -> Input {
-    let (vertices, mut indices) = match random.below(3) {
+    let mut input = if random.once_in(3) { make_flat(random) } else { make_any(random) };
+    input.lent.face = Some(random.bits() as u32);
+    input
+}
+
+/// Squares, books and any meshes.
+pub fn make_any(random: &mut Random) -> Input {
+    let mesh = match random.below(3) {
         0 => mesh::square(random),
         1 => mesh::book(random),
         _ => mesh::make(random),
     };
+    looked_at(random, mesh)
+}
+
+/// Meshes of which most have flat faces.
+pub fn make_flat(random: &mut Random) -> Input {
+    let mesh = mesh::flat(random);
+    looked_at(random, mesh)
+}
+
+/// A mesh with faces over again, looked at from anywhere; from the plane of a face now and then.
+fn looked_at(random: &mut Random, (vertices, mut indices): (Vec<f64>, Vec<u32>)) -> Input {
     if random.once_in(2) {
         mesh::worn(random, &mut indices);
     }
@@ -101,25 +120,39 @@ pub fn of_mesh(vertices: &[f64], indices: &[u32], flips: &[u32], mode: u32) -> I
         numbers: vec![7; 4 * faces],
         points: vec![5; 6 * faces],
         starts: vec![9; 3 * faces],
+        face: Some(u32::MAX),
     };
     let (vertices, indices, flips) = (vertices.to_vec(), indices.to_vec(), flips.to_vec());
     Input { vertices, indices, flips, mode, cos_theta, eye, tolerance, lent }
 }
 
+/// The indices of every mesh of up to two faces on `n` vertices.
+fn up_to_two_faces(n: u32) -> Vec<Vec<u32>> {
+    let faces: Vec<Vec<u32>> = (0..n * n * n).map(|k| vec![k / (n * n), k / n % n, k % n]).collect();
+    let two = |one: &Vec<u32>| faces.iter().map(|other| [&one[..], other].concat()).collect::<Vec<_>>();
+    [vec![vec![]], faces.clone(), faces.iter().flat_map(two).collect()].concat()
+}
+
 /// Every mesh of up to two faces on four vertices that lie in no plane, in each mode, with a flip and without.
 pub fn all_small() -> impl Iterator<Item = Input> {
     let vertices = [0.0, 0.0, 0.0, 1.0, 0.0, 0.0, 0.0, 1.0, 0.0, 0.0, 0.0, 1.0];
-    let faces: Vec<Vec<u32>> = (0..64).map(|k| vec![k / 16, k / 4 % 4, k % 4]).collect();
-    let two = |one: &Vec<u32>| faces.iter().map(|other| [&one[..], other].concat()).collect::<Vec<_>>();
-    let lists: Vec<Vec<u32>> = [vec![], faces.clone(), faces.iter().flat_map(two).collect()].concat();
+    let lists = up_to_two_faces(4);
     let ways = (0..4).flat_map(|mode| [(mode, &[][..]), (mode, &[0, 1][..])]);
     ways.flat_map(move |(mode, flips)| {
         lists.clone().into_iter().map(move |list| of_mesh(&vertices, &list, flips, mode))
     })
 }
 
+/// Every mesh of up to two faces on five vertices, of which two are equal and four lie on a line, in each mode.
+pub fn all_flat() -> impl Iterator<Item = Input> {
+    let vertices = [0.0, 0.0, 0.0, -0.0, 0.0, -0.0, 1.0, 0.0, 0.0, 2.0, 0.0, 0.0, 0.0, 1.0, 0.0];
+    let lists = up_to_two_faces(5);
+    (1..4).flat_map(move |mode| lists.clone().into_iter().map(move |list| of_mesh(&vertices, &list, &[], mode)))
+}
+
 /// Large meshes in each mode: the torus with the most faces that a call takes and with one more, its faces apart (the most vertices),
-/// a fan around one vertex, one face over and over, every edge with many faces; and one vertex more than a call takes.
+/// a fan around one vertex, one face over and over, every edge with many faces; one vertex more than a call takes; and the torus with
+/// flat faces of either kind, the last face the only one or the second of two.
 fn large() -> impl Iterator<Item = Input> {
     let torus = torus::wavy(256, 128);
     let over = [&torus.faces[..], &torus.faces[..1]].concat();
@@ -128,11 +161,21 @@ fn large() -> impl Iterator<Item = Input> {
     past.push([0.0; 3]);
     let same = torus::Mesh { vertices: torus.vertices.clone(), faces: over };
     let past = torus::Mesh { vertices: past, faces: apart.faces.clone() };
-    [torus, same, apart, past, fan, equal, shared].into_iter().flat_map(|mesh| {
+    let flats =
+        [vec![(65_535, 1)], vec![(65_535, 2)], vec![(40_000, 2), (65_535, 1)]].map(|at| with_flats(&torus, &at));
+    [torus, same, apart, past, fan, equal, shared].into_iter().chain(flats).flat_map(|mesh| {
         let flips: Vec<u32> = (0..65_535).flat_map(|f| [f, f + 1]).collect();
         let of = move |mode| of_mesh(mesh.vertices.as_flattened(), mesh.faces.as_flattened(), &flips, mode);
         (1..4).map(of)
     })
+}
+
+/// A mesh with flat faces at some places, on three vertices more that lie on a line: the third corner is the `last` of them.
+fn with_flats(mesh: &torus::Mesh, flats: &[(usize, u32)]) -> torus::Mesh {
+    let (mut vertices, mut faces, more) = (mesh.vertices.clone(), mesh.faces.clone(), mesh.vertices.len() as u32);
+    vertices.extend([0.0, 1.0, 2.0].map(|x| [x, 0.0, 0.0]));
+    flats.iter().for_each(|&(at, last)| faces[at] = [more, more + 1, more + last]);
+    torus::Mesh { vertices, faces }
 }
 
 /// One face with a word, a number, a point or a start too few in each mode, and with all that it needs at its limits.
@@ -176,18 +219,37 @@ pub fn judged(input: &Input) -> Left<u32> {
     let Input { vertices, indices, flips, lent, .. } = input;
     let view = View { mode: input.mode, cos_theta: input.cos_theta, eye: input.eye, tolerance: input.tolerance };
     let lengths = [lent.scratch.len(), lent.numbers.len(), lent.points.len(), lent.starts.len()];
+    let needs_normals = input.mode >= 2;
     match reading::draw(vertices, indices, flips, &view, lengths) {
-        0 if input.mode >= 2 && has_flat(vertices, indices) => lent.refused(reading::FLAT),
-        0 => lent.accepted(&drawn(input), 1, &[]),
+        0 => match flats(input).next().filter(|_| needs_normals) {
+            Some((face, status)) => {
+                assert!(dies(input), "the original draws {input:?}");
+                lent.refused_for(status, face)
+            }
+            None => lent.accepted(&drawn(input), 1, &[]),
+        },
         status => lent.refused(status),
     }
 }
 
-/// Whether some face has a normal of computed length 0.
-fn has_flat(vertices: &[f64], indices: &[u32]) -> bool {
+/// The faces of a good mesh whose normal has computed length 0, from the lowest on, each with what it is refused for.
+pub fn flats(input: &Input) -> impl Iterator<Item = (u32, u32)> {
     use original::eps_1e9::vector::Vector;
-    let at = |v: u32| Vector::new(vertices[v as usize * 3], vertices[v as usize * 3 + 1], vertices[v as usize * 3 + 2]);
-    indices.chunks_exact(3).any(|f| at(f[1]).sub(at(f[0])).cross(at(f[2]).sub(at(f[0]))).length() == 0.0)
+    let corner = |at: usize| mesh::corner(&input.vertices, &input.indices, at).expect("a good mesh");
+    let is_flat = |corners: [[f64; 3]; 3]| {
+        let [a, b, c] = corners.map(|[x, y, z]| Vector::new(x, y, z));
+        b.sub(a).cross(c.sub(a)).length() == 0.0
+    };
+    (0..input.indices.len() / 3).filter_map(move |face| {
+        let corners = [0, 1, 2].map(|k| corner(3 * face + k));
+        is_flat(corners).then(|| (face as u32, reading::flat(corners)))
+    })
+}
+
+/// Whether the original's drawing ends where a vector without length is to be normalised. (An accepted one does not end: it is drawn.)
+fn dies(input: &Input) -> bool {
+    let said = panics::said(|| drawn(input));
+    said.as_deref() == Some("Cannot normalize a zero-length vector")
 }
 
 /// The original's drawing, by the build that has this tolerance.
@@ -277,8 +339,56 @@ pub fn all_apart(input: &Input) -> bool {
     named(&input.vertices).len() == input.vertices.len() / 3
 }
 
-/// What the port leaves, its vertices named as the judge names them. What must hold of every accepted drawing is asked of it first.
+/// What the port leaves, its vertices named as the judge names them. What must hold of every accepted drawing is asked of it first, and
+/// the safe function must leave the same as the one for C.
 fn port(input: &Input) -> Left<u32> {
+    let left = by_c(input);
+    assert!(left.status != 0 || is_sound(input, &left), "{input:?}");
+    assert!(left == by_rust(input), "the safe function leaves something else: {input:?}");
+    renamed(input, left)
+}
+
+/// What the function for C leaves, the place of a face too.
+fn by_c(input: &Input) -> Left<u32> {
+    let Input { vertices, indices, flips, .. } = input;
+    let mut lent = input.lent.clone();
+    let mut seen = super::numbers(&lent.numbers);
+    let Lent { scratch, points, starts, face, .. } = &mut lent;
+    let face = face.as_mut().expect("a drawing has a place for a face");
+    let mut counts = [0; 2];
+    let [point_count, start_count] = &mut counts;
+    // SAFETY: each list is a pointer with its length, and what is written overlaps with nothing else.
+    let status = unsafe {
+        ramikohy::c::ramikohy_draw(
+            vertices.as_ptr(),
+            vertices.len(),
+            indices.as_ptr(),
+            indices.len(),
+            flips.as_ptr(),
+            flips.len(),
+            input.mode,
+            input.cos_theta,
+            &input.eye,
+            input.tolerance,
+            scratch.as_mut_ptr(),
+            scratch.len(),
+            seen.as_mut_ptr(),
+            seen.len(),
+            points.as_mut_ptr(),
+            points.len(),
+            starts.as_mut_ptr(),
+            starts.len(),
+            point_count,
+            start_count,
+            face,
+        )
+    };
+    lent.numbers = patterns(&seen);
+    Left { status, counts: if status == 0 { counts.to_vec() } else { Vec::new() }, lent }
+}
+
+/// What the safe function leaves.
+fn by_rust(input: &Input) -> Left<u32> {
     let Input { mode, cos_theta, eye, tolerance, .. } = *input;
     let sight = ramikohy::Sight { mode, cos_theta, eye, tolerance };
     let mut lent = input.lent.clone();
@@ -287,12 +397,11 @@ fn port(input: &Input) -> Left<u32> {
     let Input { vertices, indices, flips, .. } = input;
     let answer = ramikohy::lent::draw(vertices, indices, flips, &sight, scratch, &mut seen, points, starts);
     lent.numbers = patterns(&seen);
-    let left = super::left(answer.map(|wrote| [wrote.points, wrote.starts]), lent);
-    assert!(left.status != 0 || is_sound(input, &left), "{input:?}");
-    renamed(input, left)
+    super::left(answer.map(|wrote| [wrote.points, wrote.starts]), lent)
 }
 
 /// Runs the port beside the original.
 pub fn run(count: u64, seed: u64) -> Seen {
-    super::run(all_small().chain(at_limits()).chain(large()), make, judged, port, (count, seed))
+    let always = all_small().chain(all_flat()).chain(at_limits()).chain(large());
+    super::run(always, make, judged, port, (count, seed))
 }

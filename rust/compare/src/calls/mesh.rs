@@ -2,6 +2,7 @@
 
 use super::strokes::coordinates;
 use crate::random::Random;
+use std::f64::consts::SQRT_2;
 
 /// Vertices and indices: mostly good, now and then a vertex number too large, or a list of another length.
 pub fn make(random: &mut Random) -> (Vec<f64>, Vec<u32>) {
@@ -38,6 +39,29 @@ pub fn book(random: &mut Random) -> (Vec<f64>, Vec<u32>) {
     }
     let turned = |page: u32| random.one_of(&[[0, 1, page], [1, 0, page], [page, 0, 1], [1, page, 0]]);
     (vertices, (2..2 + pages as u32).flat_map(turned).collect())
+}
+
+/// 2^-269. A cross product whose computed length is 0 or just not 0 comes of sides about so long.
+const LEAST: f64 = f64::from_bits((1023 - 269) << 52);
+
+/// Coordinates of flat faces and of faces that are just not flat: on a line, by underflow, about the limit of underflow, by rounding.
+const FLAT: [[f64; 4]; 4] = [
+    [0.0, -0.0, 1.0, 2.0],
+    [0.0, -0.0, LEAST, 2.0 * LEAST],
+    [0.0, LEAST, SQRT_2.next_down() * LEAST, SQRT_2 * LEAST],
+    [0.0, 1.0, 1e-20, -1e-20],
+];
+
+/// Faces of which many are flat, of either kind and in any order: vertices that are equal, lie on a line or lie too near.
+pub fn flat(random: &mut Random) -> (Vec<f64>, Vec<u32>) {
+    let (count, faces, numbers) = (4 + random.below(4), 1 + random.below(5), random.one_of(&FLAT));
+    let mut one = |among: &[f64]| random.one_of(among);
+    let vertices = (0..count).flat_map(|_| [one(&numbers), one(&numbers), one(&[0.0, -0.0, numbers[2]])]).collect();
+    let mut face = || {
+        let first = random.below(count);
+        [0, 1 + random.below(count - 1), 1 + random.below(count - 1)].map(|k| ((first + k) % count) as u32)
+    };
+    (vertices, (0..faces).flat_map(|_| face()).collect())
 }
 
 /// Some faces over again, in another order of their corners; and now and then a face with a corner twice.

@@ -98,7 +98,7 @@ fn damage(random: &mut Random, bytes: &mut Vec<u8>) {
 
 /// Bytes with so much room for points and starts, and something in it.
 fn with_room(bytes: Vec<u8>, points: usize, starts: usize) -> Input {
-    Input { bytes, lent: Lent { scratch: vec![], numbers: vec![], points: vec![5; points], starts: vec![9; starts] } }
+    Input { bytes, lent: Lent { points: vec![5; points], starts: vec![9; starts], ..Lent::default() } }
 }
 
 /// A few small sheets.

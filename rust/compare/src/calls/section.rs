@@ -36,12 +36,8 @@ fn always() -> impl Iterator<Item = Input> {
     let meshes = [torus.faces, over].map(|faces| (torus.vertices.concat(), faces.concat()));
     super::adaptive::TOLERANCES.into_iter().flat_map(move |tolerance| {
         meshes.clone().map(|(vertices, indices)| {
-            let lent = Lent {
-                scratch: vec![],
-                numbers: vec![],
-                points: vec![5; 2 * indices.len()],
-                starts: vec![9; indices.len() / 3],
-            };
+            let (points, starts) = (vec![5; 2 * indices.len()], vec![9; indices.len() / 3]);
+            let lent = Lent { points, starts, ..Lent::default() };
             Input { vertices, indices, plane: [0.1, 0.2, 0.05, 0.3, 0.9, 0.2], tolerance, lent }
         })
     })

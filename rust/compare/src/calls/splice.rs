@@ -50,7 +50,7 @@ fn at_limits() -> impl Iterator<Item = Input> {
         Input {
             points: vec![1; points],
             starts: (0..strokes).map(|i| i.min(points) as u32).collect(),
-            lent: Lent { scratch, numbers: vec![], points: room, starts },
+            lent: Lent { scratch, points: room, starts, ..Lent::default() },
         }
     })
 }
@@ -60,7 +60,8 @@ pub fn of_strokes(strokes: &[Vec<u32>]) -> Input {
     let starts: Vec<u32> = (0..strokes.len()).map(|i| strokes[..i].iter().map(|s| s.len() as u32).sum()).collect();
     let points = strokes.concat();
     let [words, room] = [8 * starts.len(), points.len()];
-    let lent = Lent { scratch: vec![7; words], numbers: vec![], points: vec![5; room], starts: vec![9; starts.len()] };
+    let (scratch, room, marks) = (vec![7; words], vec![5; room], vec![9; starts.len()]);
+    let lent = Lent { scratch, points: room, starts: marks, ..Lent::default() };
     Input { points, starts, lent }
 }
 

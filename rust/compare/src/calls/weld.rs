@@ -73,9 +73,9 @@ fn always() -> impl Iterator<Item = Input> {
     [torus, over, jittered].into_iter().chain(crowded).map(|corners| Input {
         lent: Lent {
             scratch: vec![7; 4 * corners.len()],
-            numbers: vec![],
             points: vec![5; 3 * corners.len()],
             starts: vec![9; corners.len()],
+            ..Lent::default()
         },
         corners: corners.concat(),
     })

@@ -41,7 +41,7 @@ pub fn make(random: &mut Random) -> Input {
 
 /// Bytes alone are lent.
 pub fn lent(bytes: Vec<u8>) -> Lent<u8> {
-    Lent { scratch: vec![], numbers: vec![], points: bytes, starts: vec![] }
+    Lent { points: bytes, ..Lent::default() }
 }
 
 /// So many strokes on so many points and vertices, with this much more or less room than their sheet needs.
