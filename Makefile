@@ -3,7 +3,7 @@
 # make compare: ten million inputs to the port and to the original for each call (CALL, COUNT and SEED change that).
 # make bench: times of the port beside the original, written to docs/BENCHMARKS.md.
 # make fuzz: SECONDS of the coverage-guided fuzzer on the C functions, their buffers against unreadable pages (fuzz/README.md).
-# make rows: the stored rows that crates/replay, replay_strokes, replay_meshes and replay_sheets are run on, made again.
+# make rows: the stored rows that crates/replay, replay_strokes, replay_meshes, replay_sheets and replay_stl are run on, made again.
 .PHONY: run test compare bench fuzz rows
 CALL ?= all
 COUNT ?= 10000000
@@ -44,3 +44,4 @@ rows:
 	@./tools/into crates/replay_strokes/stdin $(ours) rows -- strokes
 	@./tools/into crates/replay_meshes/stdin $(ours) rows -- meshes
 	@./tools/into crates/replay_sheets/stdin $(ours) rows -- sheets
+	@./tools/into crates/replay_stl/stdin $(ours) rows -- stl

@@ -19,19 +19,20 @@
 extern "C" {
 #endif
 
-/* Refusals. The lowest that applies is given, but for three cases: in chop_adaptive ROOM and DEEP go to whichever the walk meets first,
- * reading a sheet tests SHEET before ROOM, and of ALIKE and NO_LENGTH the one that the lowest face at fault has is given. These two
- * alone carry something, the number of that face. */
+/* Refusals. The lowest that applies is given, but for four cases: in chop_adaptive ROOM and DEEP go to whichever the walk meets first,
+ * reading a sheet tests SHEET before ROOM, reading an STL file tests STL before all others, and of ALIKE and NO_LENGTH the one that the
+ * lowest face at fault has is given. These two alone carry something, the number of that face. */
 #define RAMIKOHY_SHAPE 1      /* a list that is not one of triangles, points, pairs or strokes */
 #define RAMIKOHY_COUNT 2      /* a count above its limit, below */
 #define RAMIKOHY_VERTEX 3     /* a vertex number not below the vertex count */
-#define RAMIKOHY_NUMBER 4     /* a number outside its range, below, or a mode number above 3 */
+#define RAMIKOHY_NUMBER 4     /* a number outside its range, below, a mode number above 3, or a corner to be written that is no f32 */
 #define RAMIKOHY_SCRATCH 5    /* scratch too short */
 #define RAMIKOHY_ROOM 6       /* output too short, or a cut that would write over RAMIKOHY_MOST_POINTS */
 #define RAMIKOHY_ALIKE 7      /* polygonal or silhouette: a face that has two corners whose coordinates compare equal (-0 equals 0) */
 #define RAMIKOHY_DEEP 8       /* chop_adaptive would halve a span already 64 halvings deep */
 #define RAMIKOHY_SHEET 9      /* bytes that are not a sheet */
 #define RAMIKOHY_NO_LENGTH 10 /* polygonal or silhouette: a face with three different corners and a normal of computed length 0 */
+#define RAMIKOHY_STL 11       /* bytes that are not a binary STL file */
 
 /* The status that says that there is none. No refusal has this number. */
 #define RAMIKOHY_NONE 255
@@ -105,6 +106,18 @@ uint32_t ramikohy_simplify(const double *points, size_t points_len, const uint32
 uint32_t ramikohy_weld(const double *coords, size_t coords_len, uint32_t *scratch, size_t scratch_len, double *vertices,
                        size_t vertices_len, uint32_t *indices, size_t indices_len, size_t *vertex_count,
                        size_t *index_count);
+
+/* A binary STL file as a welded mesh: 80 bytes of header, the count of faces, then 50 bytes a face. Header, normals and the two bytes
+ * after each face are not looked at. Scratch, output and what becomes one vertex: those of a weld. RAMIKOHY_STL comes before all other
+ * refusals. Stack: 2,048 bytes. */
+uint32_t ramikohy_read_stl(const uint8_t *bytes, size_t bytes_len, uint32_t *scratch, size_t scratch_len, double *vertices,
+                           size_t vertices_len, uint32_t *indices, size_t indices_len, size_t *vertex_count,
+                           size_t *index_count);
+
+/* A mesh as a binary STL file: header, normals and the two bytes after each face are 0. A corner that is not exactly an f32 is
+ * RAMIKOHY_NUMBER; a vertex that no face names is held to its range alone. Output: 84 bytes, and 50 a face. Stack: 2,048 bytes. */
+uint32_t ramikohy_write_stl(const double *vertices, size_t vertices_len, const uint32_t *indices, size_t indices_len,
+                            uint8_t *out, size_t out_len, size_t *byte_count);
 
 /* Where a plane cuts the faces of a mesh, a stroke of two points each. Output: 2 points and 1 start a face. Stack: 2,048
  * bytes. */

@@ -1,8 +1,9 @@
-//! The main job on a built-in casting: the scan's corners are welded, the mesh is drawn in each mode, each drawing is written
-//! as a sheet and read back, and one sheet is listed. `make run` hands it the proved program that lists a sheet, and the folder that the
-//! sheets are left in.
+//! The main job on a built-in casting: the scan's corners are welded, the mesh goes through an STL file, it is drawn in
+//! each mode, each drawing is written as a sheet and read back, and one sheet is listed. `make run` hands it the proved
+//! program that lists a sheet, and the folder that the sheets and the file are left in.
 
-use ramikohy::{Mesh, Mode, Plane, Sheet, Strokes, Vector, draw, read_sheet, section, weld, write_sheet};
+use ramikohy::{Mesh, Mode, Plane, Refusal, Sheet, Strokes, Vector};
+use ramikohy::{draw, read_sheet, read_stl, section, weld, write_sheet, write_stl};
 use std::collections::BTreeMap;
 use std::io::Write;
 use std::process::{Command, Stdio};
@@ -13,6 +14,8 @@ type Outcome<T> = Result<T, Box<dyn std::error::Error>>;
 const AROUND: usize = 96;
 const EYE: [f64; 3] = [600.0, -450.0, 520.0];
 const TOLERANCE: f64 = 1e-9;
+/// The name of the STL file.
+const STL: &str = "casting.stl";
 /// Each mode, with the name of its sheet's file.
 const MODES: [(&str, &str, Mode); 4] = [
     ("triangles", "triangles.sheet", Mode::Triangles),
@@ -29,7 +32,8 @@ fn main() -> Outcome<()> {
         "flanged pipe, 300 mm: {} faces by their corners, with a gap where the scan saw nothing",
         mesh.faces.len()
     );
-    println!("weld: {} corners are {} vertices, {welding:.2} ms\n", 3 * corners.len(), mesh.vertices.len());
+    println!("weld: {} corners are {} vertices, {welding:.2} ms", 3 * corners.len(), mesh.vertices.len());
+    println!("{}\n", filed(&mesh)?);
     println!("drawing                    kept edges  strokes  pen lifts   bytes  draw ms  write ms  read ms");
     for (name, _, mode) in MODES {
         println!("{name:<25}{}", archived(&mesh, mode)?);
@@ -44,19 +48,43 @@ fn main() -> Outcome<()> {
     leave(&mesh)
 }
 
-/// Leaves each sheet in the folder that is named, and says where.
+/// Leaves each sheet and the STL file in the folder that is named, and says where.
 fn leave(mesh: &Mesh) -> Outcome<()> {
     let Some(folder) = std::env::args().nth(2) else { return Ok(()) };
+    let place = |file: &str| std::path::Path::new(&folder).join(file);
     let mut bytes = 0;
     for (_, file, mode) in MODES {
         let sheet = sheet_of(mesh, mode)?;
         bytes += sheet.len();
-        std::fs::write(std::path::Path::new(&folder).join(file), sheet)?;
+        std::fs::write(place(file), sheet)?;
     }
+    std::fs::write(place(STL), write_stl(&rounded(mesh))?)?;
     let files = MODES.map(|(_, file, _)| file).join(" ");
     println!("\nthe sheets, {bytes} bytes, are in {folder}: {files}");
-    println!("tools/list < {folder}/{} lists one", MODES[2].1);
+    println!("tools/list < {folder}/{} lists one; the casting itself is in {folder}/{STL}", MODES[2].1);
     Ok(())
+}
+
+/// The mesh with the nearest f32 to each coordinate. A scan's f64 are none, and the writer of files rounds nothing:
+/// whoever wants a file rounds first, as here.
+fn rounded(mesh: &Mesh) -> Mesh {
+    let vertices = mesh.vertices.iter().map(|v| v.map(|x| x as f32 as f64)).collect();
+    Mesh { vertices, faces: mesh.faces.clone() }
+}
+
+/// Writes the casting as an STL file and reads it back, and tells a line of it.
+fn filed(mesh: &Mesh) -> Outcome<String> {
+    assert_eq!(write_stl(mesh), Err(Refusal::Number), "the scan's numbers are no f32, and none is rounded unasked");
+    let mesh = rounded(mesh);
+    let (file, writing_ms) = timed(|| write_stl(&mesh));
+    let file = file?;
+    let (read, reading_ms) = timed(|| read_stl(&file));
+    assert_eq!(read?, mesh, "the file reads back: the same vertices, the same faces");
+    let bytes = file.len();
+    Ok(format!(
+        "STL, vertices rounded to f32 first: {bytes} bytes, written in {writing_ms:.2} ms, read back as the same \
+         mesh in {reading_ms:.2} ms"
+    ))
 }
 
 /// The pipe's wall, as radius and height in mm: bore, flange with a raised face, fillet, pipe, and the same back.

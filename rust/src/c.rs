@@ -66,6 +66,27 @@ unsafe extern "C" {
         vertex_count: *mut usize,
         index_count: *mut usize,
     ) -> u32;
+    pub fn ramikohy_read_stl(
+        bytes: *const u8,
+        bytes_len: usize,
+        scratch: *mut u32,
+        scratch_len: usize,
+        vertices: *mut f64,
+        vertices_len: usize,
+        indices: *mut u32,
+        indices_len: usize,
+        vertex_count: *mut usize,
+        index_count: *mut usize,
+    ) -> u32;
+    pub fn ramikohy_write_stl(
+        vertices: *const f64,
+        vertices_len: usize,
+        indices: *const u32,
+        indices_len: usize,
+        out: *mut u8,
+        out_len: usize,
+        byte_count: *mut usize,
+    ) -> u32;
     pub fn ramikohy_section(
         vertices: *const f64,
         vertices_len: usize,

@@ -5,11 +5,13 @@ pub mod chop;
 pub mod chop_adaptive;
 pub mod draw;
 pub mod read_sheet;
+pub mod read_stl;
 pub mod section;
 pub mod simplify;
 pub mod splice;
 pub mod weld;
 pub mod write_sheet;
+pub mod write_stl;
 
 use crate::Refusal;
 

@@ -18,11 +18,13 @@ pub use crate::calls::chop::lent as chop;
 pub use crate::calls::chop_adaptive::lent as chop_adaptive;
 pub use crate::calls::draw::lent as draw;
 pub use crate::calls::read_sheet::lent as read_sheet;
+pub use crate::calls::read_stl::lent as read_stl;
 pub use crate::calls::section::lent as section;
 pub use crate::calls::simplify::lent as simplify;
 pub use crate::calls::splice::lent as splice;
 pub use crate::calls::weld::lent as weld;
 pub use crate::calls::write_sheet::lent as write_sheet;
+pub use crate::calls::write_stl::lent as write_stl;
 
 /// Defines a function over the archive's function of the same name.
 macro_rules! lend {

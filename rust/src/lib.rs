@@ -31,6 +31,7 @@ pub use calls::draw::{Mode, Sight, draw};
 pub use calls::read_sheet::{Read, Sheet, read_sheet};
 pub use calls::write_sheet::write_sheet;
 pub use calls::{chop::chop, section::section, simplify::simplify, splice::splice, weld::weld};
+pub use calls::{read_stl::read_stl, write_stl::write_stl};
 pub use matrix::Matrix;
 pub use mesh::{Mesh, Plane};
 pub use number::{abs, floor, sqrt};

@@ -11,7 +11,7 @@ pub enum Refusal {
     Count,
     /// A vertex number not below the vertex count.
     Vertex,
-    /// A number outside its range.
+    /// A number outside its range, or a corner to be written as a file that is not exactly an f32.
     Number,
     /// Scratch too short.
     Scratch,
@@ -25,6 +25,8 @@ pub enum Refusal {
     Sheet,
     /// A face with three different corners and a normal of computed length 0.
     NoLength { face: u32 },
+    /// Bytes that are not a binary STL file.
+    Stl,
 }
 
 impl Refusal {
@@ -41,6 +43,7 @@ impl Refusal {
             Refusal::Deep => 8,
             Refusal::Sheet => 9,
             Refusal::NoLength { .. } => 10,
+            Refusal::Stl => 11,
         }
     }
 
@@ -73,6 +76,7 @@ impl Refusal {
             Refusal::Room,
             Refusal::Deep,
             Refusal::Sheet,
+            Refusal::Stl,
         ];
         let of_face = face.map(|face| [Refusal::Alike { face }, Refusal::NoLength { face }]);
         plain.into_iter().chain(of_face.into_iter().flatten()).find(|refusal| refusal.number() == number)
@@ -84,13 +88,14 @@ impl Refusal {
             Refusal::Shape => "a list is not one of triangles, points, pairs or strokes",
             Refusal::Count => "a count is above its limit",
             Refusal::Vertex => "a vertex number is not below the vertex count",
-            Refusal::Number => "a number is outside its range, or a mode number above 3",
+            Refusal::Number => "a number is outside its range, a mode number above 3, or a corner to be written no f32",
             Refusal::Scratch => "scratch is too short",
             Refusal::Room => "output is too short, or a cut would write over 1,048,576 points",
             Refusal::Alike { .. } => "has two corners whose coordinates are equal",
             Refusal::Deep => "a span would be halved more than 64 times",
             Refusal::Sheet => "the bytes are not a sheet",
             Refusal::NoLength { .. } => "has three different corners and a normal of computed length 0",
+            Refusal::Stl => "the bytes are not a binary STL file",
         }
     }
 

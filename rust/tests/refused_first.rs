@@ -56,6 +56,7 @@ fn meshes() {
     for (mesh, why) in [(mesh(65_537, [0, 1, 2]), Refusal::Count), (mesh(9, [0, 1, 3]), Refusal::Vertex)] {
         refused(|| ramikohy::draw(&mesh, &[], Mode::Polygonal, ABOVE, 1e-9), why);
         refused(|| ramikohy::section(&mesh, &plane, 1e-9), why);
+        refused(|| ramikohy::write_stl(&mesh), why);
     }
     let corners = vec![[[0.0; 3]; 3]; 65_537];
     refused(|| ramikohy::weld(&corners), Refusal::Count);
@@ -86,6 +87,25 @@ fn sheets() {
     let numbers = line(1, 7);
     refused(|| ramikohy::write_sheet(1, 3, &numbers), Refusal::Vertex);
     refused(|| ramikohy::read_sheet(&[1; 4096]), Refusal::Sheet);
+}
+
+/// A file of as many faces whose corners are all 0.
+fn file(faces: u32) -> Vec<u8> {
+    let mut bytes = vec![0; 84 + 50 * faces as usize];
+    bytes[80..84].copy_from_slice(&faces.to_le_bytes());
+    bytes
+}
+
+#[test]
+fn files() {
+    let (mut nan, mut mesh) = (file(1), mesh(1, [0, 1, 2]));
+    nan[128..132].copy_from_slice(&f32::NAN.to_le_bytes());
+    refused(|| ramikohy::read_stl(&nan), Refusal::Number);
+    refused(|| ramikohy::read_stl(&[0xFF; 4096]), Refusal::Stl);
+    let many = file(65_537);
+    refused(|| ramikohy::read_stl(&many), Refusal::Count);
+    mesh.vertices[2][1] = 0.1;
+    refused(|| ramikohy::write_stl(&mesh), Refusal::Number);
 }
 
 /// The count is of this thread's own bytes, so what is accepted shows that it counts.

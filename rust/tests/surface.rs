@@ -96,7 +96,7 @@ fn header() -> Surface {
 
 #[test]
 fn the_three_languages_name_the_same_functions() {
-    let files = ["lib", "strokes", "meshes", "sheets", "reader"];
+    let files = ["lib", "strokes", "meshes", "files", "sheets", "reader"];
     let source = files.map(|file| read(&format!("crates/ramikohy/src/{file}.rt"))).concat();
     let rattle = like_rust(&source, "pub extern \"C\" fn ", "\n    ensures");
     let rust = like_rust(&read("rust/src/c.rs"), "pub fn ", ";\n");
@@ -132,7 +132,7 @@ fn the_three_languages_have_the_same_refusals() {
     let source = read("crates/refusal/src/lib.rt");
     let arms = parts(&source, "Refusal::", ",").filter_map(|arm| arm.split_once(" => "));
     let numbered: Vec<(&str, u32)> = arms.filter_map(|(name, number)| Some((name, number.parse().ok()?))).collect();
-    assert_eq!(numbered.len(), 10);
+    assert_eq!(numbered.len(), 11);
     for (name, number) in numbered {
         let (name, carries) = name.strip_suffix("(_)").map_or((name, false), |name| (name, true));
         assert_eq!(defined(&in_capitals(name)), number.to_string());

@@ -1,6 +1,6 @@
 // The listing's cases: a line each that says what the bytes are, and then what the listing says of them.
+use bytes::put_byte;
 use libc::STDOUT_FILENO;
-use sheet::put_byte;
 use sheet::put_word;
 use sheet_list::MOST_BYTES;
 use sheet_list::MOST_TEXT;

@@ -3,15 +3,16 @@ use mathlib.Core.Path.{_≡_, refl, sym, ap, _∙_}
 use mathlib.Core.Bool.{Bool, true, false, _&&_}
 use mathlib.Core.List.{List, [], _∷_}
 use mathlib.Core.Logic.{⊎-elim}
-use Prim.Native.Nat.{ℕ, zero, suc, _+_, _*_, _/_, _≤_, _<_}
+use Prim.Native.Nat.{ℕ, zero, suc, _+_, _*_, _/_, _%_, _≤_, _<_}
 use native.Mathlib.Numerals.{add-one}
 use native.Mathlib.Omega.{arith}
 use lib.Dec.{eqb, leb, ltb}
 use lib.ListN.{length, getD, drop, drop-of-length-le}
 use lib.Seq.{drop-cons}
-use borrow.Author.Tests.{le-ltb, lt-ltb, ltb-true, leb-true, le-leb, ne-eqb}
+use borrow.Author.Tests.{le-ltb, lt-ltb, ltb-true, leb-true, le-leb, eqb-true, ne-eqb}
+use Rattle.refusal.specs.Limits.{mostFaces, mostVertices}
 use Rattle.path.proofs.Tests.{both, split}
-use Rattle.mesh.specs.Meshes.{allBelow, reachOf}
+use Rattle.mesh.specs.Meshes.{shapedOf, countedOf, allBelow, reachOf}
 
 and-false : (b : Bool) → (b && false) ≡ false
 and-false true = refl
@@ -70,3 +71,12 @@ module _ (v : ℕ) (is : List ℕ) (n k : ℕ) (h : reachOf v is n ≡ true) (l 
 pub all-reach : (v : ℕ) (is : List ℕ) → allBelow v is ≡ true → reachOf v is (length is / 3) ≡ true
 unfolding reachOf
 all-reach v is h = rw (le-leb (length is / 3 * 3) (length is) (omega arith)) h
+
+-- what the limits and the shape tell of the faces
+pub few-faces : (numbers indices : ℕ) → countedOf numbers indices ≡ true → indices / 3 ≤ mostFaces
+unfolding countedOf
+few-faces numbers indices h = leb-true _ _ (both (leb (numbers / 3) mostVertices) (leb (indices / 3) mostFaces) h .1)
+
+pub whole-faces : (numbers indices : ℕ) → shapedOf numbers indices ≡ true → indices ≡ indices / 3 * 3
+unfolding shapedOf
+whole-faces numbers indices h = let e = eqb-true (indices % 3) 0 (both (eqb (numbers % 3) 0) (eqb (indices % 3) 0) h .1) in omega arith

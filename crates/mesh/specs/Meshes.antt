@@ -18,6 +18,11 @@ cornerAt vs is k = pointAt vs (getD is k 0)
 abbrev pub faceAt : List Float → List ℕ → ℕ → Triangle
 faceAt vs is f = record { v1 = cornerAt vs is (f * 3); v2 = cornerAt vs is (f * 3 + 1); v3 = cornerAt vs is (f * 3 + 2) }
 
+-- the coordinates of the corners that indices name, in order
+unfoldable pub gathered : List Float → List ℕ → List Float
+gathered vs [] = []
+gathered vs (i ∷ is) = pointAt vs i .x ∷ pointAt vs i .y ∷ pointAt vs i .z ∷ gathered vs is
+
 -- ---- the tests, by how many numbers and how many indices there are
 
 unfoldable pub shapedOf : ℕ → ℕ → Bool

@@ -1,4 +1,3 @@
-pub mod Tests
 pub mod Modes
 pub mod Draws
 pub mod Faults

@@ -12,13 +12,13 @@ use Rattle.refusal.specs.declared.Verdict.the-variants.{Accepted}
 use Rattle.path.proofs.Tests.{passed}
 use Rattle.path.proofs.Pushes.{over-sets}
 use Rattle.mesh_weld.specs.Weld.{weldOf}
-use Rattle.mesh_weld.specs.Call.{verdictOf, left, welded}
+use Rattle.mesh_weld.specs.Call.{lentVerdict, verdictOf, left, welded}
 use Rattle.mesh_weld.specs.InnerTable.{Laid}
 
 -- what an accepted call has been tested for
 pub fitting : (cs : List Float) (w r n : ℕ) → verdictOf cs w r n ≡ Accepted
     → (length cs % 9 ≡ 0) × (length cs / 9 ≤ mostFaces) × (length cs / 9 * 12 ≤ w) × (length cs / 9 * 9 ≤ r) × (length cs / 9 * 3 ≤ n)
-unfolding verdictOf
+unfolding verdictOf lentVerdict
 fitting cs w r n h =
     let shape = passed _ _ _ h in
     let count = passed _ _ _ (shape .1) in

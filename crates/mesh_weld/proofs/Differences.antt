@@ -20,17 +20,17 @@ use Rattle.mesh_weld.specs.Weld.{side, near}
 use Rattle.mesh_weld.specs.InnerTable.{apartOf}
 use Rattle.mesh_weld.proofs.Equals.{side-is}
 
-abbrev square : Float → Float
+abbrev pub square : Float → Float
 square x = mul binary64 x x
 
 -- ---- the numbers: 0.000001, and its square as an f64
 abbrev small : Float
 small = fin false 4722366482869645 (negsuc 71)
 
-abbrev limit : Float
+abbrev pub limit : Float
 limit = fin false 4951760157141521 (negsuc 91)
 
-limit-is : mul binary64 side side ≡ limit
+pub limit-is : mul binary64 side side ≡ limit
 unfolding ofBits ofFields odd mul round size span climb units
 limit-is = refl
 

@@ -11,3 +11,4 @@ pub mod Coarse
 pub mod Calls
 pub mod Cases
 pub mod Unique
+pub mod Files

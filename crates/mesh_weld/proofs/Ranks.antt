@@ -112,7 +112,7 @@ both : (a b : Bool) → a && b ≡ true → (a ≡ true) × (b ≡ true)
 both true b h = (refl, h)
 both false b h = (h, absurd (true≢false (sym h)))
 
-hits-all : (p : Vector) (x y z : ℕ) (v : Vector) → hits p x y z v ≡ true → (near p v ≡ true) × (key (v .x) ≡ x) × (key (v .y) ≡ y) × (key (v .z) ≡ z)
+pub hits-all : (p : Vector) (x y z : ℕ) (v : Vector) → hits p x y z v ≡ true → (near p v ≡ true) × (key (v .x) ≡ x) × (key (v .y) ≡ y) × (key (v .z) ≡ z)
 unfolding hits
 hits-all p x y z v h =
     let tx = eqb (key (v .x)) x in
@@ -123,7 +123,7 @@ hits-all p x y z v h =
     let d = both ty tz (b .1) in
     (a .0, eqb-true (key (v .x)) x (b .0), eqb-true (key (v .y)) y (d .0), eqb-true (key (v .z)) z (d .1))
 
-hits-make : (p : Vector) (x y z : ℕ) (v : Vector) → near p v ≡ true → key (v .x) ≡ x → key (v .y) ≡ y → key (v .z) ≡ z → hits p x y z v ≡ true
+pub hits-make : (p : Vector) (x y z : ℕ) (v : Vector) → near p v ≡ true → key (v .x) ≡ x → key (v .y) ≡ y → key (v .z) ≡ z → hits p x y z v ≡ true
 unfolding hits
 hits-make p x y z v n ex ey ez = rw (n, eq-eqb _ _ ex, eq-eqb _ _ ey, eq-eqb _ _ ez)
 

@@ -22,16 +22,21 @@ abbrev pub said : Welded → Said ℕ
 said (W.Wrote vertices indices) = accepted (vertices ∷ indices ∷ [])
 said (W.Refused r) = refused r
 
--- nine coordinates a face, 12 words of scratch, room for 3 vertices and 3 indices
+-- what is lent for so many faces: 12 words of scratch, room for 3 vertices and 3 indices each
+unfoldable pub lentVerdict : ℕ → ℕ → ℕ → ℕ → Verdict
+lentVerdict faces words room numbers =
+    unless (leb (faces * 12) words) Scratch
+    (unless (leb (faces * 9) room) Room
+    (unless (leb (faces * 3) numbers) Room
+    Accepted))
+
+-- nine coordinates a face
 unfoldable pub verdictOf : List Float → ℕ → ℕ → ℕ → Verdict
 verdictOf cs words room numbers =
     unless (eqb (length cs % 9) 0) Shape
     (unless (leb (length cs / 9) mostFaces) Count
     (unless (coordinatesGood cs) Number
-    (unless (leb (length cs / 9 * 12) words) Scratch
-    (unless (leb (length cs / 9 * 9) room) Room
-    (unless (leb (length cs / 9 * 3) numbers) Room
-    Accepted)))))
+    (lentVerdict (length cs / 9) words room numbers)))
 
 pub record Lent : Type 0 where
   pub scratch : List ℕ

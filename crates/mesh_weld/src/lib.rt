@@ -1,4 +1,6 @@
 // Welding the corners of faces: which vertex each corner is, by the source's VertexMerger.
+pub mod read;
+
 use order::clear;
 use path::coordinates_good;
 use path::point_at;
@@ -20,11 +22,11 @@ ghost use lib.IntN.{natAbs};
 ghost use Rattle.mesh_weld.specs.Weld.{near as nearOf, find as findOf};
 ghost use Rattle.refusal.specs.Limits.{mostFaces};
 ghost use Rattle.mesh_weld.specs.InnerTable.{count, key, cubeOf, Counted, foldedOf, bucketOf, coarseOf, turnedOf, linkOf, Older, Ends, Hung, placeOf, rankOf, apartOf, top, scoreOf, scoreAt, cube, eightFrom, allWays, wayOf, onwardOf, lesserOf, worthOf, allWorth, closeOf, allClose, nexts, NoMore, Least, About, Ready, Placed};
-ghost use Rattle.mesh_weld.specs.Call.{said, verdictOf, left, weldLeft};
+ghost use Rattle.mesh_weld.specs.Call.{said, lentVerdict, verdictOf, left, weldLeft};
 ghost use Rattle.mesh_weld.specs.InnerTable.{Laid};
 
 // The number of a vertex, or none.
-enum Found {
+pub enum Found {
     At(usize),
     Nothing,
 }
@@ -498,6 +500,23 @@ fn weld_all(coords: &[f64], scratch: &mut [u32], vertices: &mut [f64], indices: 
     k
 }
 
+// Whether enough is lent to weld so many faces: the lowest refusal that applies.
+fn lent_verdict(faces: usize, words: usize, room: usize, numbers: usize) -> Verdict
+    requires { ⌜ faces ≤ mostFaces ⌝ }
+    ensures { λ r. ⌜ r ≡ lentVerdict faces words room numbers ⌝ }
+{
+    if words < faces * 12 {
+        return Verdict::Refused(Refusal::Scratch);
+    }
+    if room < faces * 9 {
+        return Verdict::Refused(Refusal::Room);
+    }
+    if numbers < faces * 3 {
+        return Verdict::Refused(Refusal::Room);
+    }
+    Verdict::Accepted
+}
+
 // The tests before welding. Nothing lent is touched.
 fn weld_verdict(coords: &[f64], words: usize, room: usize, numbers: usize) -> Verdict
     ensures { λ r. ⌜ r ≡ verdictOf (now (coords .entry)) words room numbers ⌝ }
@@ -512,16 +531,7 @@ fn weld_verdict(coords: &[f64], words: usize, room: usize, numbers: usize) -> Ve
     if !coordinates_good(coords) {
         return Verdict::Refused(Refusal::Number);
     }
-    if words < faces * 12 {
-        return Verdict::Refused(Refusal::Scratch);
-    }
-    if room < faces * 9 {
-        return Verdict::Refused(Refusal::Room);
-    }
-    if numbers < faces * 3 {
-        return Verdict::Refused(Refusal::Room);
-    }
-    Verdict::Accepted
+    lent_verdict(faces, words, room, numbers)
 }
 
 // Welds the corners of faces, nine coordinates a face: the vertices in the order in which they are met, and the vertex of each corner.

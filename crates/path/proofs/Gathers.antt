@@ -24,6 +24,13 @@ module _ {A : Type 0} (at : ℕ → A) where
   length-gather a zero = refl
   length-gather a (suc n) = ap suc (length-gather (a + 1) n)
 
+  -- the i-th that is gathered
+  pub gather-at : (a n i : ℕ) (d : A) → i < n → at (a + i) ≡ getD (gather at a n) i d
+  unfolding gather
+  gather-at a zero i d h = absurd (omega arith)
+  gather-at a (suc n) zero d h = ap at (add-zero a)
+  gather-at a (suc n) (suc i) d h = let e : a + suc i ≡ a + 1 + i = omega arith in rw e (gather-at (a + 1) n i d (omega arith))
+
 -- the strokes from the i-th on, each made over by f
 module _ {A C : Type 0} (f : List A → C) (at : ℕ → A) (n : ℕ) (ss : List ℕ) (i : ℕ) where
   pub strokes-more : (e : ℕ) → i < length ss → e ≡ getD ss (i + 1) n

@@ -13,6 +13,7 @@ use Rattle.path_splice.specs.Call as S
 use Rattle.mesh_weld.specs.Call as W
 use Rattle.mesh_strokes.specs.Call as D
 use Rattle.sheet_write.specs.Call as O
+use Rattle.stl_write.specs.Call as F
 use Rattle.sheet_read.specs.Call as R
 use Rattle.ramikohy.specs.Points.{pointOf}
 use Rattle.ramikohy.specs.Status.{Valued, valued}
@@ -83,6 +84,9 @@ one-draw x r t p q =
 
 pub one-writing : (x : Called O.Lent) → One (ℕ × List ℕ × List ℕ) (λ o. called (o .0) (o .1) (O.lent (o .2)) ≡ x)
 one-writing x r t p q = let e = one-called x (r .0, r .1, O.lent (r .2)) (t .0, t .1, O.lent (t .2)) p q in λ i. (e i .0, e i .1, e i .2 .bytes)
+
+pub one-write-stl : (x : Called F.Lent) → One (ℕ × List ℕ × List ℕ) (λ o. called (o .0) (o .1) (F.lent (o .2)) ≡ x)
+one-write-stl x r t p q = let e = one-called x (r .0, r .1, F.lent (r .2)) (t .0, t .1, F.lent (t .2)) p q in λ i. (e i .0, e i .1, e i .2 .bytes)
 
 pub one-reading : (x : Called R.Lent) → One (ℕ × List ℕ × List ℕ × List ℕ) (λ o. called (o .0) (o .1) (R.lent (o .2) (o .3)) ≡ x)
 one-reading x r t p q =

@@ -16,6 +16,7 @@ ghost use Rattle.vector.specs.Abs.{absOf};
 ghost use Rattle.ramikohy.specs.Points.{pointOf, matrixOf};
 ghost use Rattle.ramikohy.specs.Status.{valued, valuedBy, valuedByUnit};
 
+pub mod files;
 pub mod meshes;
 pub mod reader;
 pub mod sheets;

@@ -7,7 +7,7 @@ use native.Mathlib.Omega.{arith}
 use lib.ListN.{getD}
 use lib.Dec.{eqb}
 use Rattle.refusal.specs.declared.Refusal.{Refusal}
-use Rattle.refusal.specs.declared.Refusal.the-variants.{Shape, Count, Vertex, Number, Scratch, Room, Alike, Deep, Sheet, NoLength}
+use Rattle.refusal.specs.declared.Refusal.the-variants.{Shape, Count, Vertex, Number, Scratch, Room, Alike, Deep, Sheet, NoLength, Stl}
 use Rattle.refusal.specs.declared.Carried.{Carried}
 use Rattle.refusal.specs.declared.Carried.the-variants.{Face, Nothing}
 use Rattle.refusal.specs.declared.Verdict.{Verdict}
@@ -26,7 +26,7 @@ one-read read told x r t p q = told r t (p ∙ sym q)
 
 -- the refusal of a number, with what it carries
 abbrev named : ℕ → List ℕ → Refusal
-named n c = let face = getD c 0 0 in getD (Shape ∷ Shape ∷ Count ∷ Vertex ∷ Number ∷ Scratch ∷ Room ∷ Alike face ∷ Deep ∷ Sheet ∷ []) n (NoLength face)
+named n c = let face = getD c 0 0 in getD (Shape ∷ Shape ∷ Count ∷ Vertex ∷ Number ∷ Scratch ∷ Room ∷ Alike face ∷ Deep ∷ Sheet ∷ NoLength face ∷ []) n Stl
 
 back : (r : Refusal) → named (numberOf r) (carriedBy r) ≡ r
 back Shape = refl
@@ -39,6 +39,7 @@ back (Alike face) = refl
 back Deep = refl
 back Sheet = refl
 back (NoLength face) = refl
+back Stl = refl
 
 pub one-refusal : {A : Type 0} (r t : Refusal) → refused {A = A} r ≡ refused {A = A} t → r ≡ t
 one-refusal r t e = sym (back r) ∙ ap (λ s. named (s .number) (s .carried)) e ∙ back t
@@ -55,6 +56,7 @@ not-zero (Alike face) = refl
 not-zero Deep = refl
 not-zero Sheet = refl
 not-zero (NoLength face) = refl
+not-zero Stl = refl
 
 pub never-both : {A : Type 0} (vs : List A) (r : Refusal) → accepted vs ≡ refused r → ⊥
 never-both vs r e = true≢false (ap (λ s. eqb (s .number) 0) e ∙ not-zero r)

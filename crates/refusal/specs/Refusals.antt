@@ -1,10 +1,11 @@
--- The table of refusals: each number is given exactly when its line says, and the lowest that applies; between the two that carry a
--- face the lowest face at fault decides.
+-- The table of refusals: each number is given exactly when its line says, and the lowest that applies, but: between the two that carry a
+-- face the lowest face at fault decides; in `chop_adaptive` 6 and 8 go to whichever the walk meets first; reading a sheet tests 9 before 6,
+-- and reading a file 11 before all others.
 use mathlib.Core.Bool.{Bool, true, false}
 use mathlib.Core.List.{List, [], _∷_}
 use Prim.Native.Nat.{ℕ}
 use Rattle.refusal.specs.declared.Refusal.{Refusal}
-use Rattle.refusal.specs.declared.Refusal.the-variants.{Shape, Count, Vertex, Number, Scratch, Room, Alike, Deep, Sheet, NoLength}
+use Rattle.refusal.specs.declared.Refusal.the-variants.{Shape, Count, Vertex, Number, Scratch, Room, Alike, Deep, Sheet, NoLength, Stl}
 use Rattle.refusal.specs.declared.Verdict.{Verdict}
 use Rattle.refusal.specs.declared.Verdict.the-variants.{Refused}
 
@@ -26,6 +27,7 @@ numberOf (Alike face) = alikeNumber
 numberOf Deep = 8  -- a span halved too often
 numberOf Sheet = 9  -- bytes that are not a sheet
 numberOf (NoLength face) = noLengthNumber
+numberOf Stl = 11  -- bytes that are not a binary STL file
 
 -- what a refusal carries beside its number: the face at fault, those two alone
 abbrev pub carriedBy : Refusal → List ℕ
@@ -39,6 +41,7 @@ carriedBy (Alike face) = face ∷ []
 carriedBy Deep = []
 carriedBy Sheet = []
 carriedBy (NoLength face) = face ∷ []
+carriedBy Stl = []
 
 -- a test that must hold, and the refusal where it does not, before the tests that follow
 unfoldable pub unless : Bool → Refusal → Verdict → Verdict

@@ -26,6 +26,7 @@ pub enum Refusal {
     Deep,
     Sheet,
     NoLength(u32),
+    Stl,
 }
 
 // What the tests before a call's work come to.
@@ -49,6 +50,7 @@ pub fn number(r: Refusal) -> u32
         Refusal::Deep => 8,
         Refusal::Sheet => 9,
         Refusal::NoLength(_) => 10,
+        Refusal::Stl => 11,
     }
 }
 
@@ -73,5 +75,6 @@ pub fn carried_by(r: Refusal) -> Carried
         Refusal::Deep => Carried::Nothing,
         Refusal::Sheet => Carried::Nothing,
         Refusal::NoLength(face) => Carried::Face(face),
+        Refusal::Stl => Carried::Nothing,
     }
 }

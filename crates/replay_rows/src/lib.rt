@@ -141,13 +141,13 @@ pub fn reals(page: &[u64; 256], at: usize) -> [f64; 96]
     list
 }
 
-// The 96 words from a place on, as a list of bytes.
-pub fn bytes(page: &[u64; 256], at: usize) -> [u8; 96]
-    ensures { λ r. ⌜ (r ≡ filled (λ i. byteOf (now (page .entry)) (pastOf at i)) (replicate 96 0) 96) × (length r ≡ 96) ⌝ }
+// All words from a place on, as a list of bytes; no row has as many as 249.
+pub fn bytes(page: &[u64; 256], at: usize) -> [u8; 249]
+    ensures { λ r. ⌜ (r ≡ filled (λ i. byteOf (now (page .entry)) (pastOf at i)) (replicate 249 0) 249) × (length r ≡ 249) ⌝ }
 {
-    let mut list = [0u8; 96];
+    let mut list = [0u8; 249];
     let mut i = 0;
-    while i < 96 {
+    while i < 249 {
         list[i] = byte(page, past(at, i));
         i += 1;
     }

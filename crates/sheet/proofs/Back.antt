@@ -16,29 +16,25 @@ use Rattle.path.proofs.Tests.{both}
 use Rattle.path.proofs.Gathers.{length-gather, gather-drop}
 use Rattle.path.proofs.Pushes.{length-starts}
 use Rattle.mesh.specs.Meshes.{allBelow}
-use Rattle.sheet.specs.Sheets.{modePlace, verticesPlace, strokesPlace, pointsPlace, startsOffset, numbersOffset, headerWords, numbersFrom, bytesOf, bytesAll, wordAt, headerOf, wordsOf, sheetOf, sizeOf, modeIn, verticesIn, strokeCount, pointCount, startsIn, numbersIn, modeGood, countsGood, placesGood, strictFrom, tableGood, headerGood, isSheet}
+use Rattle.bytes.specs.Bytes.{bytesOf, bytesAll, wordFrom}
+use Rattle.bytes.proofs.Words as words
+use Rattle.bytes.proofs.Words.{wordLimit, word-after}
+use Rattle.sheet.specs.Sheets.{modePlace, verticesPlace, strokesPlace, pointsPlace, startsOffset, numbersOffset, headerWords, numbersFrom, wordAt, headerOf, wordsOf, sheetOf, sizeOf, modeIn, verticesIn, strokeCount, pointCount, startsIn, numbersIn, modeGood, countsGood, placesGood, strictFrom, tableGood, headerGood, isSheet}
 use Rattle.sheet.proofs.Sizes.{words-size}
 use Rattle.sheet.proofs.Modes.{good-most}
 use Rattle.path.proofs.Again.{gather-add, gather-all, joined-all, strokes-again}
 use Rattle.sheet.proofs.Tables.{joined-kept, kept-all, table-good, table-starts}
 
--- the words that fit four bytes
-abbrev wordLimit : ℕ
-wordLimit = 4294967296
-
 -- the first word of bytes, and those after it
 word-first : (w : ℕ) (rest : List ℕ) → w < wordLimit → wordAt (bytesOf w ++ rest) 0 ≡ w
-unfolding wordAt bytesOf
-word-first w rest h = omega arith
+unfolding wordAt
+word-first = words.word-first
 
 word-next : (p q r s : ℕ) (rest : List ℕ) (k : ℕ) → wordAt (p ∷ q ∷ r ∷ s ∷ rest) (suc k) ≡ wordAt rest k
 unfolding wordAt
 word-next p q r s rest k =
-    let a : suc k * 4 ≡ suc (suc (suc (suc (k * 4)))) = omega arith in
-    let b : suc k * 4 + 1 ≡ suc (suc (suc (suc (k * 4 + 1)))) = omega arith in
-    let d : suc k * 4 + 2 ≡ suc (suc (suc (suc (k * 4 + 2)))) = omega arith in
-    let e : suc k * 4 + 3 ≡ suc (suc (suc (suc (k * 4 + 3)))) = omega arith in
-    rw (b, d, e, a)
+    let e : suc k * 4 ≡ 4 + k * 4 = omega arith in
+    rw e (word-after (p ∷ q ∷ r ∷ s ∷ []) rest (k * 4))
 
 -- each word of the bytes of words
 word-back : (ws : List ℕ) (k : ℕ) → allBelow wordLimit ws ≡ true → k < length ws → wordAt (bytesAll ws) k ≡ getD ws k 0
@@ -68,7 +64,7 @@ shift f a zero = refl
 shift f a (suc n) = rw (add-one a) (ap (λ (l : List ℕ). f (suc a) ∷ l) (rw (add-one a) at (shift f (a + 1) n)))
 
 four-bytes : (p q r s : ℕ) (rest : List ℕ) → p < 256 → q < 256 → r < 256 → s < 256 → bytesOf (wordAt (p ∷ q ∷ r ∷ s ∷ rest) 0) ≡ p ∷ q ∷ r ∷ s ∷ []
-unfolding bytesOf wordAt
+unfolding bytesOf wordAt wordFrom
 four-bytes p q r s rest hp hq hr hs =
     let w = p + 256 * q + 65536 * r + 16777216 * s in
     let x : w / 256 ≡ q + 256 * r + 65536 * s = omega arith in

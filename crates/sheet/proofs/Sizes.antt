@@ -11,8 +11,9 @@ use Rattle.refusal.specs.Limits.{mostVertices, mostStrokes, mostPoints}
 use Rattle.path.proofs.Tests.{both}
 use Rattle.path.specs.Laid.{nonEmpty, joined, startsFrom}
 use Rattle.path.proofs.Pushes.{length-starts}
-use Rattle.sheet.specs.Sheets.{bytesAll, headerOf, wordsOf, sheetOf, sizeOf, countsGood}
-use Rattle.sheet.proofs.Words.{length-bytes}
+use Rattle.bytes.specs.Bytes.{bytesAll}
+use Rattle.sheet.specs.Sheets.{headerOf, wordsOf, sheetOf, sizeOf, countsGood}
+use Rattle.bytes.proofs.Words.{length-bytes}
 
 pub words-size : (m v : ℕ) (ks ns : List ℕ) → length (bytesAll (wordsOf m v ks ns)) ≡ sizeOf (length ks) (length ns)
 unfolding headerOf

@@ -1,26 +1,18 @@
 -- A sheet: strokes of vertex numbers as bytes, in words of four bytes, the lowest byte first.
 use mathlib.Core.Bool.{Bool, true, _&&_, cond}
 use mathlib.Core.List.{List, [], _∷_, _++_}
-use Prim.Native.Nat.{ℕ, zero, suc, _+_, _*_, _/_, _%_}
-use lib.ListN.{length, getD}
+use Prim.Native.Nat.{ℕ, zero, suc, _+_, _*_}
+use lib.ListN.{length}
 use lib.Dec.{leb, ltb, eqb}
 use Rattle.refusal.specs.Limits.{mostVertices, mostStrokes, mostPoints}
+use Rattle.bytes.specs.Bytes.{bytesAll, wordFrom}
 use Rattle.path.specs.Strokes.{gather}
 use Rattle.path.specs.Laid.{nonEmpty, joined, startsFrom}
 use Rattle.mesh.specs.Meshes.{allBelow}
 
--- the four bytes of a word
-unfoldable pub bytesOf : ℕ → List ℕ
-bytesOf w = w % 256 ∷ w / 256 % 256 ∷ w / 256 / 256 % 256 ∷ w / 256 / 256 / 256 % 256 ∷ []
-
--- the bytes of words in a row
-unfoldable pub bytesAll : List ℕ → List ℕ
-bytesAll [] = []
-bytesAll (w ∷ ws) = bytesOf w ++ bytesAll ws
-
 -- the k-th word of bytes; a byte past the end is 0
 unfoldable pub wordAt : List ℕ → ℕ → ℕ
-wordAt bs k = getD bs (k * 4) 0 + 256 * getD bs (k * 4 + 1) 0 + 65536 * getD bs (k * 4 + 2) 0 + 16777216 * getD bs (k * 4 + 3) 0
+wordAt bs k = wordFrom bs (k * 4)
 
 -- ---- the places of the words
 

@@ -1,13 +1,15 @@
-// What writing and reading a sheet share: words in bytes, the lowest byte first, the places of the header's words, the mode
+// What writing and reading a sheet share: words by their number, the places of the header's words, the mode
 // numbers that a sheet has, and the limits of counts.
+use bytes::put_word_from;
+use bytes::word_from;
 use refusal::MOST_POINTS;
 use refusal::MOST_STROKES;
 use refusal::MOST_VERTICES;
 ghost use mathlib.Core.Path.{_≡_};
-ghost use Prim.Native.Nat.{_*_, _<_};
-ghost use lib.ListN.{getD, set};
+ghost use Prim.Native.Nat.{_*_};
 ghost use lib.Seq.{sets};
-ghost use Rattle.sheet.specs.Sheets.{bytesOf, wordAt, numbersFrom, modeGood, modeWord, countsGood};
+ghost use Rattle.bytes.specs.Bytes.{bytesOf};
+ghost use Rattle.sheet.specs.Sheets.{wordAt, numbersFrom, modeGood, modeWord, countsGood};
 
 // The places of the header's words: mode and counts, then the offsets in bytes of starts and numbers.
 pub const MODE: usize = 0;
@@ -25,17 +27,6 @@ pub const NUMBERS_OFFSET: usize = 5;
 // How many words the header has; the starts follow.
 pub const HEADER_WORDS: usize = 6;
 
-// The byte at place i, 0 past the end.
-fn byte_at(bytes: &[u8], i: usize) -> u32
-    ensures { λ r. ⌜ r ≡ getD (now (bytes .entry)) i 0 ⌝ }
-    ensures { λ r. ⌜ r < 256 ⌝ }
-{
-    if i < bytes.len() {
-        return bytes[i] as u32;
-    }
-    0
-}
-
 // The k-th word; a byte past the end is 0.
 pub fn word_at(bytes: &[u8], k: usize) -> u32
     ensures { λ r. ⌜ r ≡ wordAt (now (bytes .entry)) k ⌝ }
@@ -43,21 +34,7 @@ pub fn word_at(bytes: &[u8], k: usize) -> u32
     if bytes.len() / 4 < k {
         return 0;
     }
-    let i = k * 4;
-    let a = byte_at(bytes, i);
-    let b = byte_at(bytes, i + 1);
-    let c = byte_at(bytes, i + 2);
-    let d = byte_at(bytes, i + 3);
-    a + 256 * b + 65536 * c + 16777216 * d
-}
-
-// Stores a byte at place i; past the end nothing.
-pub fn put_byte(out: &mut [u8], i: usize, b: u8)
-    ensures { λ _. ⌜ now (out .exit) ≡ set (now (out .entry)) i b ⌝ }
-{
-    if i < out.len() {
-        out[i] = b;
-    }
+    word_from(bytes, k * 4)
 }
 
 // Stores the k-th word; past the end nothing.
@@ -65,11 +42,7 @@ pub fn put_word(out: &mut [u8], k: usize, w: u32)
     ensures { λ _. ⌜ now (out .exit) ≡ sets (now (out .entry)) (k * 4) (bytesOf w) ⌝ }
 {
     if k <= out.len() / 4 {
-        let i = k * 4;
-        put_byte(out, i, (w % 256) as u8);
-        put_byte(out, i + 1, (w / 256 % 256) as u8);
-        put_byte(out, i + 2, (w / 256 / 256 % 256) as u8);
-        put_byte(out, i + 3, (w / 256 / 256 / 256 % 256) as u8);
+        put_word_from(out, k * 4, w);
     }
 }
 

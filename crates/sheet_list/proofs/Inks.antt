@@ -15,7 +15,7 @@ use Rattle.path.proofs.Points.{numbers-lie}
 use Rattle.path.proofs.Pushes.{ink-none, ink-append}
 use Rattle.path.proofs.Gathers.{gather-more, gather-none, length-gather}
 use Rattle.sheet_list.specs.Listing.{topFrom, digitsFrom, decimal, spaced, lineOf, refusedText}
-use Rattle.sheet.specs.Sheets.{bytesOf}
+use Rattle.bytes.specs.Bytes.{bytesOf}
 
 -- one byte, and those after it
 pub ink-more : (b : List ℕ) (k x : ℕ) (xs : List ℕ) → advanced sets (course (set b k x) (k + 1)) xs ≡ advanced sets (course b k) (x ∷ xs)
@@ -114,13 +114,7 @@ module _ (at : ℕ → ℕ) (b : List ℕ) (k a e : ℕ) where
       ap (λ (y : List ℕ). course y (k₂ + 1)) e₃ ∙ sym (ink-none numbers-lie (course (set b₂ k₂ 10) (k₂ + 1))) ∙ ink-more b₂ k₂ 10 [] ∙ ink-two b₁ k₁ s (10 ∷ []) e₂ ∙ ink-two b k (decimal x) (s ++ 10 ∷ []) e₁
       ∙ ap (λ (y : ℕ). advanced sets (course b k) (decimal y ++ (s ++ 10 ∷ []))) ex ∙ ap (λ (l : List ℕ). advanced sets (course b k) (lineOf l)) (sym (gather-more at a e h))
 
--- the place of a start
-pub start-in : (at : ℕ → ℕ) (a n i d : ℕ) → i < n → at (a + i) ≡ getD (gather at a n) i d
-unfolding gather
-start-in at a zero i d h = absurd (omega arith)
-start-in at a (suc n) zero d h = ap at (add-zero a)
-start-in at a (suc n) (suc i) d h = let e : a + suc i ≡ a + 1 + i = omega arith in rw e (start-in at (a + 1) n i d (omega arith))
-
+-- past the last start
 pub start-past : (at : ℕ → ℕ) (a n i d : ℕ) → n ≤ i → d ≡ getD (gather at a n) i d
 start-past at a n i d h = sym (List·getD-eq-default (gather at a n) d (omega (arith, length-gather at a n)))
 

@@ -18,7 +18,7 @@ use Rattle.path.proofs.Tests.{both}
 use Rattle.path.proofs.Starts.{getD-any, table-next}
 use Rattle.path.proofs.Pushes.{ink-none, ink-place}
 use Rattle.path.proofs.Points.{numbers-lie}
-use Rattle.path.proofs.Gathers.{length-gather, strokes-more, strokes-none}
+use Rattle.path.proofs.Gathers.{length-gather, strokes-more, strokes-none, gather-at}
 use Rattle.sheet.specs.Sheets.{modePlace, startsOffset, headerWords, numbersFrom, wordAt, modeIn, verticesIn, strokeCount, pointCount, startsIn, numbersIn, isSheet}
 use Rattle.sheet.proofs.Sizes.{limits}
 use Rattle.path.proofs.Again.{joined-all, strokes-count}
@@ -26,7 +26,7 @@ use Rattle.sheet.proofs.Tables.{table-good}
 use Rattle.sheet.proofs.Back.{gather-same, tested}
 use Rattle.sheet_list.specs.Listing.{digitsFrom, decimal, spaced, lineOf, linesOf, listed, refusedText, mostBytes, mostText, textOf}
 use Rattle.sheet_list.specs.InnerLines.{numberIn, numbersAt}
-use Rattle.sheet_list.proofs.Inks.{ink-two, start-in}
+use Rattle.sheet_list.proofs.Inks.{ink-two}
 
 -- the numbers of a stroke, counted from the first number and from the first word
 gather-shift : (f : ℕ → ℕ) (b a n : ℕ) → gather f (b + a) n ≡ gather (λ k. f (b + k)) a n
@@ -86,7 +86,7 @@ module _ (bs : List ℕ) (h : isSheet bs ≡ true) where
   pub strokes-are : strokesOf (numberIn bs (strokeCount bs)) (pointCount bs) (startsIn bs) ≡ strokesIn (numbersIn bs) (startsIn bs)
   unfolding numbersIn
   strokes-are =
-      let g : (k : ℕ) → k < pointCount bs → numberIn bs (strokeCount bs) k ≡ numberAt (numbersIn bs) k = λ k l. start-in (wordAt bs) (numbersFrom (strokeCount bs)) (pointCount bs) k 0 l in
+      let g : (k : ℕ) → k < pointCount bs → numberIn bs (strokeCount bs) k ≡ numberAt (numbersIn bs) k = λ k l. gather-at (wordAt bs) (numbersFrom (strokeCount bs)) (pointCount bs) k 0 l in
       same-strokes (numberIn bs (strokeCount bs)) (numberAt (numbersIn bs)) (pointCount bs) (startsIn bs) g good ∙ ap (λ (n : ℕ). strokesOf (numberAt (numbersIn bs)) n (startsIn bs)) (sym numbers-count)
 
 -- ---- how long

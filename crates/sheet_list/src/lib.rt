@@ -1,4 +1,5 @@
 // The text of a sheet: a line of mode, vertices, strokes and points, then a line a stroke.
+use bytes::put_byte;
 use refusal::Refusal;
 use refusal::number;
 use sheet::HEADER_WORDS;
@@ -7,7 +8,6 @@ use sheet::POINTS;
 use sheet::STARTS_OFFSET;
 use sheet::STROKES;
 use sheet::numbers_from;
-use sheet::put_byte;
 use sheet::put_word;
 use sheet::word_at;
 use sheet_read::is_sheet;

@@ -16,7 +16,8 @@ use Rattle.path.specs.Laid.{over, nonEmpty}
 use Rattle.path.proofs.Tests.{passed}
 use Rattle.path.proofs.Pushes.{over-sets}
 use Rattle.sheet.specs.InnerKept.{keptFrom}
-use Rattle.sheet.specs.Sheets.{headerWords, numbersFrom, bytesAll, headerOf, wordsOf, sheetOf, sizeOf}
+use Rattle.bytes.specs.Bytes.{bytesAll}
+use Rattle.sheet.specs.Sheets.{headerWords, numbersFrom, headerOf, wordsOf, sheetOf, sizeOf}
 use Rattle.sheet.proofs.Words.{put-more}
 use Rattle.path.proofs.Again.{joined-all}
 use Rattle.sheet.proofs.Tables.{kept-all, kept-count}

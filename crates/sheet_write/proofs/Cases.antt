@@ -6,7 +6,8 @@ use Rattle.refusal.specs.Outcome.{outcome}
 use Rattle.path.specs.Strokes.{goodFrom, goodStarts, gather, strokesOf}
 use Rattle.path.specs.Laid.{over, nonEmpty, joined, startsFrom}
 use Rattle.mesh.specs.Meshes.{allBelow}
-use Rattle.sheet.specs.Sheets.{bytesOf, bytesAll, headerOf, sheetOf, modeGood, modeWord, countsGood}
+use Rattle.bytes.specs.Bytes.{bytesOf, bytesAll}
+use Rattle.sheet.specs.Sheets.{headerOf, sheetOf, modeGood, modeWord, countsGood}
 use Rattle.sheet_write.specs.Call.{verdictOf, laid, writeLeft}
 use Rattle.sheet_write.specs.Cases.{Holds, paper}
 

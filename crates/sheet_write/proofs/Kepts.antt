@@ -9,8 +9,10 @@ use native.Mathlib.Nat.{add-zero}
 use lib.ListN.{length, getD, drop, drop-of-length-le, length-append}
 use lib.Seq.{sets, drop-cons, getD-drop}
 use lib.Dec.{ltb}
-use Rattle.sheet.specs.Sheets.{headerWords, numbersFrom, bytesOf, bytesAll, headerOf}
-use Rattle.sheet.proofs.Words.{put-more, put-one, put-none}
+use Rattle.bytes.specs.Bytes.{bytesOf, bytesAll}
+use Rattle.sheet.specs.Sheets.{headerWords, numbersFrom, headerOf}
+use Rattle.bytes.proofs.Words.{put-one, put-none}
+use Rattle.sheet.proofs.Words.{put-more}
 use Rattle.sheet.specs.InnerKept.{keptAt, keptFrom}
 
 -- one stroke

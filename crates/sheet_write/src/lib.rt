@@ -21,7 +21,8 @@ ghost use lib.ListN.{length, getD};
 ghost use lib.Seq.{sets};
 ghost use lib.Dec.{leb, ltb};
 ghost use Rattle.refusal.specs.Limits.{mostStrokes, mostPoints};
-ghost use Rattle.sheet.specs.Sheets.{headerWords, numbersFrom, modeWord, bytesAll, headerOf, wordsOf, sizeOf};
+ghost use Rattle.bytes.specs.Bytes.{bytesAll};
+ghost use Rattle.sheet.specs.Sheets.{headerWords, numbersFrom, modeWord, headerOf, wordsOf, sizeOf};
 ghost use Rattle.sheet.specs.InnerKept.{keptAt, keptFrom};
 ghost use Rattle.sheet_write.specs.Call.{verdictOf, said, left, writeLeft};
 

@@ -51,7 +51,7 @@ abs-units s q k = go (ltb (q * 2 ^ k) (2 ^ 2098)) q
     go true (suc q) = unfold odd absOf in refl
     go false q = unfold absOf in refl
 
-abs-round : (s : Bool) (a b : ℕ) → absOf (round binary64 s a b) ≡ round binary64 false a b
+pub abs-round : (s : Bool) (a b : ℕ) → absOf (round binary64 s a b) ≡ round binary64 false a b
 abs-round s a b = ap absOf (round-is binary64 s a b) ∙ abs-units s _ _ ∙ sym (round-is binary64 false a b)
 
 round-within : {c : ℕ} → Kept c → (s : Bool) (a b : ℕ) → 0 < b → a ≤ c * b → Within c (round binary64 s a b)
@@ -123,7 +123,7 @@ unfolding sum
 own-sum true a d D = rw (le-ltb a a (le-refl a)) (round-within none false (a - a) d D (omega arith))
 own-sum false a d D = rw (le-ltb a a (le-refl a)) (round-within none false (a - a) d D (omega arith))
 
-own-sub : {c : ℕ} {x : Float} → Within c x → Within 0 (sub binary64 x x)
+pub own-sub : {c : ℕ} {x : Float} → Within c x → Within 0 (sub binary64 x x)
 unfolding sub
 own-sub (within s m e h) = own-sum s (m * up e * down e) (down e * down e) (mul-pos (down-pos e) (down-pos e))
 

@@ -16,6 +16,13 @@ pub fn best(runs: usize, mut work: impl FnMut()) -> f64 {
     (0..runs).map(|_| one(&mut work)).fold(f64::INFINITY, f64::min)
 }
 
+/// The seconds of the best of `runs` runs of each of two works, by turns: what slows the machine for a while slows
+/// both.
+pub fn best_by_turns(runs: usize, mut work: impl FnMut(usize)) -> [f64; 2] {
+    let turn = |_| [0, 1].map(|which| best(1, || work(which)));
+    (0..runs).map(turn).fold([f64::INFINITY; 2], |least, turn| [0, 1].map(|which| least[which].min(turn[which])))
+}
+
 /// A call's times at both sizes, in seconds.
 pub struct Row {
     pub call: &'static str,
@@ -69,4 +76,21 @@ pub fn rate(call: &Rated, runs: usize) -> String {
     let (bytes, seconds) = large;
     let a_second = bytes as f64 / seconds / 1e6;
     format!("| {} | {bytes} | {:.2} | {a_second:.0} | {:.2} |", call.name, seconds * 1e3, seconds / small.1)
+}
+
+/// A file that is read, by its corners: as many as the mesh has, and all of them f32.
+pub struct File {
+    pub name: &'static str,
+    pub corners: fn(&Mesh) -> Vec<[f64; 3]>,
+    pub runs: usize,
+}
+
+/// A line of such a file: the times at the larger size of reading it, of welding its corners and of the original's
+/// welding of them, reading over welding, and how the time of reading grows.
+pub fn file(file: &File, times: impl Fn(&[[f64; 3]], usize) -> [f64; 3]) -> String {
+    let at = |(around, across, _)| times(&(file.corners)(&torus::wavy(around, across)), file.runs);
+    let [small, large] = SIZES.map(at);
+    let [read, weld, original] = large.map(|seconds| seconds * 1e3);
+    let (over, growth) = (read / weld, large[0] / small[0]);
+    format!("| {} | {read:.2} | {weld:.2} | {over:.2} | {original:.2} | {growth:.2} |", file.name)
 }

@@ -1,12 +1,14 @@
 //! Stored rows of the calls on lent lists: an input, and what the rules and the original say that the call leaves, one to a
-//! line. The programs `replay`, `replay_strokes`, `replay_meshes` and `replay_sheets` work them out by the proved crates.
+//! line. The programs `replay`, `replay_strokes`, `replay_meshes`, `replay_sheets` and `replay_stl` work them out by the proved crates.
 //!
 //! A row is words of hexadecimal digits with one space between: the call's number, the status, how many numbers each list of
 //! the input has, the other numbers, the lists and, where the status is 0, the counts and what was written; where it is 7 or 10, the
-//! face. Every list that is lent has [`LENT`] elements; a drawing's have their own lengths, `DRAWN`.
+//! face. Every list that is lent has [`LENT`] elements; a drawing's have their own lengths, `DRAWN`, and of those lent to a call on
+//! files the row says how long they are.
 
 use crate::calls::strokes::bits;
-use crate::calls::{Left, Lent, adaptive, chop, draw, read_sheet, section, simplify, splice, weld, write_sheet};
+use crate::calls::{Left, Lent, adaptive, chop, draw, read_sheet, read_stl, section};
+use crate::calls::{simplify, splice, weld, write_sheet, write_stl};
 use crate::random::Random;
 
 /// The elements of each list that a row's call is lent.
@@ -70,6 +72,15 @@ pub fn sheet_rows() -> Vec<String> {
     all
 }
 
+/// Every row that `replay_stl` is run on, the same each time. They have numbers of their own.
+pub fn stl_rows() -> Vec<String> {
+    let mut random = Random::new(6);
+    let mut all = Vec::new();
+    all.extend(made(&mut random, read_stl_row));
+    all.extend(made(&mut random, write_stl_row));
+    all
+}
+
 /// The first rows of random inputs that are short enough.
 fn made(random: &mut Random, row: fn(&mut Random) -> Option<Vec<u64>>) -> Vec<String> {
     let short = |words: &Vec<u64>| words.len() <= MOST_WORDS;
@@ -84,6 +95,10 @@ fn lent<P: Copy>(fill: P) -> Lent<P> {
 
 fn words(list: &[u32]) -> impl Iterator<Item = u64> + '_ {
     list.iter().map(|&x| x as u64)
+}
+
+fn byte_words(list: &[u8]) -> impl Iterator<Item = u64> + '_ {
+    list.iter().map(|&b| b as u64)
 }
 
 fn reals(list: &[f64]) -> impl Iterator<Item = u64> + '_ {
@@ -199,17 +214,46 @@ fn write_sheet_row(random: &mut Random) -> Option<Vec<u64>> {
     let sizes = [input.numbers.len(), input.starts.len()].map(|n| n as u64);
     let mut row = [[1, left.status as u64], sizes, [input.mode as u64, input.vertices as u64]].concat();
     row.extend(words(&input.numbers).chain(words(&input.starts)));
-    if let [count] = left.counts[..] {
-        row.push(count as u64);
-        row.extend(left.lent.points[..count].iter().map(|&b| b as u64));
-    }
+    row.extend(written(&left));
     Some(row).filter(|_| input.numbers.len() < LENT && input.starts.len() < LENT)
+}
+
+/// The count of bytes that a call wrote, and the bytes; nothing where it was refused.
+fn written(left: &Left<u8>) -> Vec<u64> {
+    let bytes = |&count: &usize| [count as u64].into_iter().chain(byte_words(&left.lent.points[..count]));
+    left.counts.iter().flat_map(bytes).collect()
 }
 
 fn read_sheet_row(random: &mut Random) -> Option<Vec<u64>> {
     let [points, starts] = READ;
     let lent = Lent { points: vec![7; points], starts: vec![7; starts], ..Lent::default() };
     let input = read_sheet::Input { lent, ..read_sheet::make(random) };
-    let bytes = input.bytes.iter().map(|&b| b as u64).collect();
-    row(2, &[input.bytes.len()], bytes, &read_sheet::judged(&input), 1)
+    row(2, &[input.bytes.len()], byte_words(&input.bytes).collect(), &read_sheet::judged(&input), 1)
+}
+
+/// As much is lent as the input came with; how many bytes the file has stands after that, since it may have more than `LENT`. Of
+/// files with no face and of bytes that are no file few are taken: they are much alike.
+fn read_stl_row(random: &mut Random) -> Option<Vec<u64>> {
+    let input = read_stl::make(random);
+    let sizes = [input.lent.scratch.len(), input.lent.points.len(), input.lent.starts.len()];
+    let scratch = vec![7; sizes[0]];
+    let lent = Lent { scratch, points: vec![bits(9.0); sizes[1]], starts: vec![7; sizes[2]], ..Lent::default() };
+    let input = read_stl::Input { lent, ..input };
+    let left = read_stl::judged(&input);
+    let alike = input.bytes.len() == 84 || left.status == 11;
+    let lists = [input.bytes.len() as u64].into_iter().chain(byte_words(&input.bytes)).collect();
+    row(1, &sizes, lists, &left, 3).filter(|_| !alike || random.once_in(4))
+}
+
+/// The same of meshes with no face.
+fn write_stl_row(random: &mut Random) -> Option<Vec<u64>> {
+    let input = write_stl::make(random);
+    let input = write_stl::Input { lent: write_sheet::lent(vec![7; input.lent.points.len()]), ..input };
+    let left = write_stl::judged(&input);
+    let sizes = [input.vertices.len(), input.indices.len(), input.lent.points.len()].map(|n| n as u64);
+    let mut row = [&[2, left.status as u64], &sizes[..]].concat();
+    row.extend(reals(&input.vertices).chain(words(&input.indices)));
+    row.extend(written(&left));
+    let short = input.vertices.len() < LENT && input.indices.len() < LENT && input.lent.points.len() <= MOST_WORDS;
+    Some(row).filter(|_| short && (!input.indices.is_empty() || random.once_in(4)))
 }

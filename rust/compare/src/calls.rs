@@ -9,20 +9,22 @@ pub mod chop;
 pub mod draw;
 pub mod mesh;
 pub mod read_sheet;
+pub mod read_stl;
 pub mod section;
 pub mod simplify;
 pub mod splice;
 pub mod strokes;
 pub mod weld;
 pub mod write_sheet;
+pub mod write_stl;
 
 use crate::random::Random;
 use crate::runs::Seen;
 use ramikohy::Refusal;
 use std::fmt::Debug;
 
-/// What a call is lent to write to: scratch of words and of numbers (by their bits), room for points and starts, and the place of a
-/// face, which a drawing alone has. A weld's room is for vertices and indices.
+/// What a call is lent to write to: scratch of words and of numbers (by their bits), room for points and starts, and
+/// the place of a face, which a drawing alone has. A weld's room is for vertices and indices, and a file's for bytes.
 #[derive(Clone, PartialEq, Debug)]
 pub struct Lent<P> {
     pub scratch: Vec<u32>,
@@ -118,6 +120,8 @@ pub const LINKED: &[Linked] = &[
     Linked { name: "draw", run: draw::run },
     Linked { name: "write_sheet", run: write_sheet::run },
     Linked { name: "read_sheet", run: read_sheet::run },
+    Linked { name: "write_stl", run: write_stl::run },
+    Linked { name: "read_stl", run: read_stl::run },
 ];
 
 /// Runs a call on the inputs that are tried always and on `count` random ones, and compares all that the port leaves.

@@ -1,5 +1,5 @@
-//! Corners made for the table of a weld (crates/mesh_weld/specs/InnerTable): coarse cells that share a bucket, and cells whose way
-//! through the tree of their bucket is long.
+//! Corners made for the table of a weld (crates/mesh_weld/specs/InnerTable): coarse cells that share a bucket, and
+//! cells whose way through the tree of their bucket is long. Those of f32 are what a file can hold.
 
 use crate::random::Random;
 use std::sync::OnceLock;
@@ -14,6 +14,8 @@ const ZERO: u64 = 1 << 54;
 /// The coarse cell of 0, and how far from it the cells of a coordinate are taken, of some 524,000,000,000.
 const HOME: u64 = ZERO / WIDE;
 const FAR: u64 = 450_000_000_000;
+/// How far every coarse cell holds an f32: up to 32 they lie nearer to each other than a coarse cell is wide.
+const DENSE: u64 = 15_900_000;
 const PRIME: u64 = 4_294_967_291;
 const TIMES: [u64; 3] = [625_341_585, 461_845_907, 668_265_263];
 
@@ -40,6 +42,16 @@ fn within(cell: Cell) -> Option<Point> {
     (coarse(p) == cell && p.iter().all(|x| x.abs() <= 1048576.0)).then_some(p)
 }
 
+/// The nearest f32 to each coordinate.
+fn singles(p: Point) -> Point {
+    p.map(|x| x as f32 as f64)
+}
+
+/// A point of f32 in a coarse cell, where it holds one.
+fn singles_within(cell: Cell) -> Option<Point> {
+    within(cell).map(singles).filter(|&p| coarse(p) == cell)
+}
+
 /// A number to a power, by the prime.
 fn power(base: u64, n: u64) -> u64 {
     (0..64).rev().fold(1, |r, k| {
@@ -49,12 +61,12 @@ fn power(base: u64, n: u64) -> u64 {
     })
 }
 
-/// A corner whose coarse cell has the hash 0, and so bucket 0 of any number: x and y at random but for their lowest bits, which
-/// are zero, and z solved for.
-pub fn in_first_bucket(random: &mut Random, low: u32) -> Point {
+/// A corner whose coarse cell has the hash 0, and so bucket 0 of any number: x and y at random, so far, but for their
+/// lowest bits, which are zero, and z solved for, until there is such a corner.
+fn solved(random: &mut Random, low: u32, far: u64, within: fn(Cell) -> Option<Point>) -> Point {
     let share = power(TIMES[2], PRIME - 2);
     loop {
-        let [x, y] = [(); 2].map(|_| (HOME + random.below(FAR as usize) as u64) >> low << low);
+        let [x, y] = [(); 2].map(|_| (HOME + random.below(far as usize) as u64) >> low << low);
         let left = PRIME - hash([x, y, 0]);
         let z = (left as u128 * share as u128 % PRIME as u128) as u64;
         let high = HOME >> 32;
@@ -65,9 +77,22 @@ pub fn in_first_bucket(random: &mut Random, low: u32) -> Point {
     }
 }
 
+pub fn in_first_bucket(random: &mut Random, low: u32) -> Point {
+    solved(random, low, FAR, within)
+}
+
+pub fn singles_in_first_bucket(random: &mut Random, low: u32) -> Point {
+    solved(random, low, DENSE, singles_within)
+}
+
 pub fn one_bucket(count: usize, low: u32) -> Vec<Point> {
     let mut random = Random::new(5);
     (0..count).map(|_| in_first_bucket(&mut random, low)).collect()
+}
+
+pub fn singles_in_one_bucket(count: usize, low: u32) -> Vec<Point> {
+    let mut random = Random::new(5);
+    (0..count).map(|_| singles_in_first_bucket(&mut random, low)).collect()
 }
 
 /// A corner of a coarse cell that shares a bucket of `buckets` with `home`, and the first `bits` bits of its way.
@@ -85,11 +110,11 @@ fn beside(random: &mut Random, home: Cell, buckets: usize, bits: usize) -> Point
     }
 }
 
-/// Steps from a coarse cell that keep the first `bits` bits of its way and, since the hash is a sum, nearly always its bucket.
-/// Flat ones leave x as it is.
-fn steps(random: &mut Random, bits: usize, flat: bool) -> Vec<Cell> {
+/// Steps from a coarse cell that keep the first `bits` bits of its way and, since the hash is a sum, nearly always its
+/// bucket. None goes so far on an axis; flat ones leave x as it is.
+fn steps(random: &mut Random, bits: usize, flat: bool, far: u64) -> Vec<Cell> {
     let shift = [if flat { 63 } else { (bits + 2) / 3 }, (bits + 1) / 3, bits / 3];
-    let any = |random: &mut Random| shift.map(|s| (random.bits() % (FAR / 2)) >> s << s);
+    let any = |random: &mut Random| shift.map(|s| (random.bits() % far) >> s << s);
     let near = |cell: &Cell| hash(*cell).min(PRIME - hash(*cell)) < 2_000 && *cell != [0; 3];
     (0..30_000_000).map(|_| any(random)).filter(near).take(8).collect()
 }
@@ -98,13 +123,20 @@ fn steps(random: &mut Random, bits: usize, flat: bool) -> Vec<Cell> {
 fn mixed_steps() -> &'static [Vec<Cell>] {
     static MADE: OnceLock<Vec<Vec<Cell>>> = OnceLock::new();
     let mut random = Random::new(77);
-    MADE.get_or_init(|| (0..92).map(|bits| steps(&mut random, bits, false)).collect())
+    MADE.get_or_init(|| (0..92).map(|bits| steps(&mut random, bits, false, FAR / 2)).collect())
 }
 
 fn flat_steps() -> &'static [Vec<Cell>] {
     static MADE: OnceLock<Vec<Vec<Cell>>> = OnceLock::new();
     let mut random = Random::new(78);
-    MADE.get_or_init(|| (0..80).map(|bits| steps(&mut random, bits, true)).collect())
+    MADE.get_or_init(|| (0..80).map(|bits| steps(&mut random, bits, true, FAR / 2)).collect())
+}
+
+/// Those to coarse cells that hold an f32; with more bits there are next to none.
+fn dense_steps() -> &'static [Vec<Cell>] {
+    static MADE: OnceLock<Vec<Vec<Cell>>> = OnceLock::new();
+    let mut random = Random::new(80);
+    MADE.get_or_init(|| (0..51).map(|bits| steps(&mut random, bits, false, DENSE - 1000)).collect())
 }
 
 /// Steps of multiples of 2^32 coarse cells: they keep the first 96 bits of a way and, by their hash, often its bucket.
@@ -180,21 +212,27 @@ fn mixed(random: &mut Random, mut lists: Vec<Vec<Point>>) -> Vec<Point> {
     corners
 }
 
-/// The same at sixty places of 196,608 corners, the places in a mixed order, so that each step of a look is far from the last.
+/// Packed cells at each of these places behind their strangers, the places in a mixed order, so that each step of a
+/// look is far from the last; and all other corners in their midst.
+fn asked_mixed(random: &mut Random, count: usize, middles: &[Cell], past: impl Fn(Cell) -> Vec<Point>) -> Vec<Point> {
+    let list = |middle: &Cell| {
+        let mut full: Vec<Point> = packed(middle.map(from)).collect();
+        (1..full.len()).rev().for_each(|i| full.swap(i, random.below(i + 1)));
+        [past(*middle), full].concat()
+    };
+    let lists = middles.iter().map(list).collect();
+    let mut corners = mixed(random, lists);
+    let more = count - corners.len();
+    corners.extend((0..more).map(|k| amid(middles[random.below(middles.len())].map(from), k)));
+    corners
+}
+
+/// The same at sixty places of 196,608 corners.
 pub fn many_long_ways(count: usize) -> Vec<Point> {
     let mut random = Random::new(77);
     let any = |random: &mut Random| HOME + random.below(100_000_000_000) as u64 - 50_000_000_000;
     let middles: Vec<Cell> = (0..count / 3277).map(|_| [(); 3].map(|_| any(&mut random))).collect();
-    let list = |middle: &Cell| {
-        let mut full: Vec<Point> = packed(middle.map(from)).collect();
-        (1..full.len()).rev().for_each(|i| full.swap(i, random.below(i + 1)));
-        [strangers(*middle, 2 * count, mixed_steps()), full].concat()
-    };
-    let lists = middles.iter().map(list).collect();
-    let mut corners = mixed(&mut random, lists);
-    let more = count - corners.len();
-    corners.extend((0..more).map(|k| amid(middles[random.below(middles.len())].map(from), k)));
-    corners
+    asked_mixed(&mut random, count, &middles, |middle| strangers(middle, 2 * count, mixed_steps()))
 }
 
 /// Twelve vertices just near enough to a corner, as far from each other as they can lie there.
@@ -217,9 +255,9 @@ fn about(centre: Point) -> Vec<Point> {
     near.iter().copied().chain(packed(centre).filter(room)).collect()
 }
 
-/// Corners asked for in turn at each of these places, past strangers that `put` moves within their cells.
-fn asked_in_turn(count: usize, middles: &[Cell], steps: &[Vec<Cell>], put: impl Fn(Point) -> Point) -> Vec<Point> {
-    let past = middles.iter().flat_map(|&middle| strangers(middle, 2 * count, steps)).map(put);
+/// Corners asked for in turn at each of these places, past its strangers.
+fn asked_in_turn(count: usize, middles: &[Cell], past: impl Fn(Cell) -> Vec<Point>) -> Vec<Point> {
+    let past = middles.iter().flat_map(|&middle| past(middle));
     let mut corners: Vec<Point> = past.chain(middles.iter().flat_map(|middle| about(middle.map(from)))).collect();
     let more = count - corners.len();
     corners.extend((0..more).map(|k| middles[k % middles.len()].map(from)));
@@ -237,13 +275,15 @@ fn places(count: usize, x: impl Fn(u64) -> u64) -> Vec<Cell> {
 pub fn longest_ways(count: usize) -> Vec<Point> {
     let far = far_steps().into_iter().map(|step| vec![step]);
     let steps: Vec<Vec<Cell>> = mixed_steps().iter().cloned().chain(far).collect();
-    asked_in_turn(count, &places(count, |x| x), &steps, |p| p)
+    asked_in_turn(count, &places(count, |x| x), |middle| strangers(middle, 2 * count, &steps))
 }
 
 /// Ways past strangers whose x differs from the corner's by so little that its square is subnormal, which some processors take a
 /// hundred times as long for.
 pub fn subnormal_ways(count: usize) -> Vec<Point> {
-    asked_in_turn(count, &places(count, |_| HOME), flat_steps(), |[x, y, z]| [1e-160f64.copysign(x), y, z])
+    let put = |[x, y, z]: Point| [1e-160f64.copysign(x), y, z];
+    let past = |middle| strangers(middle, 2 * count, flat_steps()).into_iter().map(put).collect();
+    asked_in_turn(count, &places(count, |_| HOME), past)
 }
 
 /// Long ways to the cells about 0, where vertices can be near a corner with differences on one or two axes whose squares are
@@ -269,4 +309,73 @@ pub fn origin_ways(count: usize) -> Vec<Point> {
     corners.extend(near.iter().copied().chain(full));
     corners.resize(count, asked);
     corners
+}
+
+/// The coarse cells of an axis that share the lowest 19 bits with this one and hold an f32, each with its part of the
+/// hash.
+fn sharing(home: u64, axis: usize) -> Vec<(u64, u64)> {
+    let holds = |cell: u64| {
+        let x = (from(cell) + SIDE) as f32 as f64;
+        coarse([x; 3])[0] == cell
+    };
+    let most = FAR >> 19;
+    let cells = (0..2 * most).map(|k| home + (k << 19) - (most << 19));
+    cells.filter(|&cell| holds(cell)).map(|cell| (cell, folded(cell) * TIMES[axis] % PRIME)).collect()
+}
+
+/// Adds some more strangers of f32 that share the first `bits` bits of a coarse cell's way, 57 or more, and its bucket.
+fn add_far(found: &mut Vec<Point>, more: usize, home: Cell, axes: [&[(u64, u64)]; 3], bits: usize, buckets: u64) {
+    let kept = [bits + 2, bits + 1, bits].map(|b| (1u64 << (b / 3)) - 1);
+    let share = |a: usize| axes[a].iter().copied().filter(move |(cell, _)| (cell ^ home[a]) & kept[a] == 0);
+    let [xs, ys, zs]: [Vec<(u64, u64)>; 3] = [0, 1, 2].map(|a| share(a).collect());
+    let bucket = |sum: u64| (sum % PRIME * buckets) >> 32;
+    let (wanted, enough) = (bucket(hash(home)), found.len() + more);
+    for (&(x, p), &(y, q)) in xs.iter().flat_map(|x| ys.iter().map(move |y| (x, y))) {
+        let cells = zs.iter().filter(|(_, r)| bucket(p + q + r) == wanted).map(|&(z, _)| [x, y, z]);
+        let points = cells.filter(|&cell| cell != home).filter_map(singles_within);
+        let new: Vec<Point> = points.filter(|point| !found.contains(point)).collect();
+        found.extend(new);
+        if found.len() >= enough {
+            return;
+        }
+    }
+}
+
+/// Strangers of f32 on the ways to the eight coarse cells about a place near 0: those up to 32, and behind them as
+/// many, farther off, as there are that keep to a way.
+fn single_strangers(middle: Cell, buckets: usize) -> Vec<Point> {
+    let mut found: Vec<Point> = strangers(middle, buckets, dense_steps()).into_iter().map(singles).collect();
+    let lists = [0, 1, 2].map(|a| [0, 1].map(|d| sharing(middle[a] - d, a)));
+    for d in 0..8 {
+        let home = [0, 1, 2].map(|a| middle[a] - (d >> a & 1));
+        let axes = [0, 1, 2].map(|a| &lists[a][(d >> a & 1) as usize][..]);
+        let mut far = vec![];
+        for (bits, more) in [(57, 12)].into_iter().chain((58..68).map(|bits| (bits, 1))) {
+            add_far(&mut far, more, home, axes, bits, buckets as u64);
+        }
+        found.extend(far);
+    }
+    found
+}
+
+/// So many places so near 0 that f32 lie there as dense as the vertices of packed cells ask for. None is below 0, where
+/// the hash of a step would change on the way.
+fn single_places(random: &mut Random, count: usize) -> Vec<Cell> {
+    (0..count).map(|_| [(); 3].map(|_| HOME + 12 * (1 + random.below(70)) as u64)).collect()
+}
+
+/// The dearest corners of f32 that were found, asked for in turn: the longest ways, and as many near vertices as a
+/// corner can have. No difference of two f32 has a subnormal square.
+pub fn longest_single_ways(count: usize) -> Vec<Point> {
+    let middles = single_places(&mut Random::new(81), count / 8192);
+    let corners = asked_in_turn(count, &middles, |middle| single_strangers(middle, 2 * count));
+    corners.into_iter().map(singles).collect()
+}
+
+/// The same ways at forty places of 196,608 corners, in a mixed order: with more of them fewer corners are asked for.
+pub fn many_single_ways(count: usize) -> Vec<Point> {
+    let mut random = Random::new(82);
+    let middles = single_places(&mut random, count / 4900);
+    let corners = asked_mixed(&mut random, count, &middles, |middle| single_strangers(middle, 2 * count));
+    corners.into_iter().map(singles).collect()
 }

@@ -11,6 +11,7 @@ pub const ALIKE: u32 = 7;
 pub const DEEP: u32 = 8;
 pub const SHEET: u32 = 9;
 pub const NO_LENGTH: u32 = 10;
+pub const STL: u32 = 11;
 
 const MOST_FACES: usize = 65_536;
 const MOST_VERTICES: usize = 196_608;
@@ -207,4 +208,43 @@ pub fn sheet(bytes: &[u8]) -> Option<Sheet> {
     let begin = starts.first().map_or(points == 0, |&first| first == 0);
     let known = numbers.iter().all(|&v| v < vertices);
     (rise && begin && known).then(|| Sheet { mode, vertices, starts: starts.to_vec(), numbers: numbers.to_vec() })
+}
+
+/// The corners of the binary STL file that bytes are, if they are one: nine numbers a face, each the f64 of an f32. The
+/// length that the count asks for is worked out in more bits than it can take.
+pub fn stl(bytes: &[u8]) -> Option<Vec<f64>> {
+    let faces = word(bytes.get(80..84)?);
+    if bytes.len() as u128 != 84 + 50 * faces as u128 {
+        return None;
+    }
+    let corners = bytes[84..].chunks_exact(50).flat_map(|face| face[12..48].chunks_exact(4));
+    Some(corners.map(|b| f32::from_bits(word(b)) as f64).collect())
+}
+
+/// The word of four bytes, the lowest first.
+fn word(bytes: &[u8]) -> u32 {
+    bytes.iter().rev().fold(0, |word, &byte| word << 8 | byte as u32)
+}
+
+/// What reading a file is refused for: bytes that are none come first, and the rest is a weld of its corners.
+pub fn read_stl(bytes: &[u8], scratch: usize, out_numbers: usize, out_indices: usize) -> u32 {
+    stl(bytes).map_or(STL, |corners| weld(&corners, scratch, out_numbers, out_indices))
+}
+
+/// Whether a number is exactly an f32: made one and taken back it has the same bits.
+pub fn is_single(x: f64) -> bool {
+    (x as f32 as f64).to_bits() == x.to_bits()
+}
+
+/// What writing a file is refused for: every vertex must be within the bound, and those that a face names must be f32.
+pub fn write_stl(vertices: &[f64], indices: &[u32], room: usize) -> u32 {
+    let number = mesh(vertices, indices, true);
+    if number != 0 {
+        return number;
+    }
+    let mut named = indices.iter().flat_map(|&v| &vertices[3 * v as usize..][..3]);
+    first(&[
+        (vertices.iter().all(|&x| in_range(x)) && named.all(|&x| is_single(x)), NUMBER),
+        (room >= 84 + 50 * (indices.len() / 3), ROOM),
+    ])
 }

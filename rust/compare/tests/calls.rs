@@ -1,7 +1,8 @@
 //! The judge of the calls on buffers: the worked cases of the rules, by the original, and what must hold of all answers.
 #![cfg(original)]
 
-use compare::calls::{Left, Lent, adaptive, chop, draw, read_sheet, section, simplify, splice, weld, write_sheet};
+use compare::calls::{Left, Lent, adaptive, chop, draw, section, simplify, splice, weld};
+use compare::calls::{read_sheet, read_stl, write_sheet, write_stl};
 use compare::random::Random;
 use std::collections::BTreeMap;
 
@@ -197,6 +198,8 @@ fn random_inputs_meet_every_refusal_that_they_can() {
     assert_eq!(met(section::make, section::judged), [0, 1, 3, 4, 6]);
     assert_eq!(met(write_sheet::make, write_sheet::judged), [0, 1, 2, 3, 4, 6]);
     assert_eq!(met(read_sheet::make, read_sheet::judged), [0, 6, 9]);
+    assert_eq!(met(write_stl::make, write_stl::judged), [0, 1, 3, 4, 6]);
+    assert_eq!(met(read_stl::make, read_stl::judged), [0, 4, 5, 6, 11]);
 }
 
 /// What a random drawing may have to do with flat faces, all of which must come often.
@@ -251,6 +254,84 @@ fn the_sheet_of_the_rules() {
     let left = read_sheet::judged(&read_sheet::Input { bytes, lent: plenty(5) });
     assert_eq!(left.counts, [4, 1, 1, 3]);
     assert_eq!((&left.lent.points[..4], left.lent.starts[0]), (&[1, 0, 2, 1][..], 0));
+}
+
+/// A file of one face with these x, y and z zero, a header that begins as a text's, NaN normals and two bytes that say
+/// nothing.
+fn file_on_x(xs: [f32; 3]) -> Vec<u8> {
+    let mut bytes = b"solid".to_vec();
+    bytes.resize(80, b' ');
+    bytes.extend(1u32.to_le_bytes());
+    bytes.extend([0xFF; 12]);
+    bytes.extend(xs.iter().flat_map(|&x| [x, 0.0, 0.0]).flat_map(f32::to_le_bytes));
+    bytes.extend([0xEF, 0xBE]);
+    bytes
+}
+
+/// What reading leaves with so many words of scratch, numbers and indices.
+fn read_with(bytes: &[u8], [words, numbers, indices]: [usize; 3]) -> Left<u64> {
+    let lent = Lent { scratch: vec![7; words], points: vec![5; numbers], starts: vec![9; indices], ..Lent::default() };
+    read_stl::judged(&read_stl::Input { bytes: bytes.to_vec(), lent })
+}
+
+#[test]
+fn files_read_by_the_rules() {
+    let vertices = |xs: [f64; 2]| xs.iter().flat_map(|&x| [x, 0.0, 0.0]).map(f64::to_bits).collect::<Vec<_>>();
+    for (xs, first) in [([0.0, 1.0, -0.0], 0.0), ([-0.0, 1.0, 0.0], -0.0)] {
+        let left = read_with(&file_on_x(xs), [12, 9, 3]);
+        assert_eq!((left.counts, &left.lent.points[..6]), (vec![2, 3], &vertices([first, 1.0])[..]));
+        assert_eq!(left.lent.starts, [0, 1, 0]);
+    }
+    let least = read_with(&file_on_x([1.0, f32::from_bits(1), 2.0]), [12, 9, 3]);
+    assert_eq!(least.lent.points[3], 2f64.powi(-149).to_bits());
+}
+
+#[test]
+fn files_refused_by_the_rules() {
+    let status = |bytes: &[u8], lent| read_with(bytes, lent).status;
+    let one = file_on_x([0.0, 1.0, 2.0]);
+    let enough = [12, 9, 3];
+    assert_eq!([&one[..133], &one[..83], &[], &[&one[..], &[0]].concat()].map(|b| status(b, enough)), [11; 4]);
+    for (count, length) in [(65_537u32, 134), (85_899_346, 88), (0, 134), (1, 84)] {
+        let mut bytes = one[..length].to_vec();
+        bytes[80..84].copy_from_slice(&count.to_le_bytes());
+        assert_eq!(status(&bytes, enough), 11);
+    }
+    let mut many = vec![0xFF; 84 + 50 * 65_537];
+    many[80..84].copy_from_slice(&65_537u32.to_le_bytes());
+    assert_eq!(status(&many, [0; 3]), 2);
+    let past = 1048576f32.next_up();
+    for x in [past, -past, f32::NAN, f32::INFINITY] {
+        assert_eq!(status(&file_on_x([0.0, 1.0, x]), [11, 9, 3]), 4);
+    }
+    assert_eq!(status(&one, [11, 0, 0]), 5);
+    assert_eq!([[12, 8, 3], [12, 9, 2]].map(|lent| status(&one, lent)), [6; 2]);
+}
+
+/// What writing one face leaves, with room for so many bytes; a fourth vertex is named by none.
+fn written_as_stl(vertices: [[f64; 3]; 4], room: usize) -> Left<u8> {
+    let lent = write_sheet::lent(vec![9; room]);
+    write_stl::judged(&write_stl::Input { vertices: vertices.concat(), indices: vec![0, 1, 2], lent })
+}
+
+#[test]
+fn files_written_by_the_rules() {
+    let face = [[-0.0, 0.5, 2f64.powi(-149)], [1048576.0, 0.0, 0.0], [0.0, 1.0, 0.0]];
+    let with = |fourth| [face[0], face[1], face[2], fourth];
+    let left = written_as_stl(with([0.1; 3]), 140);
+    let patterns = [0x80000000u32, 0x3F000000, 1, 0x49800000, 0, 0, 0, 0x3F800000, 0];
+    let corners: Vec<u8> = patterns.iter().flat_map(|p| p.to_le_bytes()).collect();
+    let file = [&[0; 80][..], &[1, 0, 0, 0], &[0; 12], &corners, &[0; 2], &[9; 6]].concat();
+    assert_eq!((left.status, left.counts, left.lent.points), (0, vec![134], file));
+    assert_eq!(written_as_stl(with([0.1; 3]), 133).status, 6);
+    assert_eq!(written_as_stl(with([f64::NAN; 3]), 0).status, 4);
+    for x in [0.1, 1.0 + 2f64.powi(-24), 2f64.powi(-150), 1048576.125] {
+        assert_eq!(written_as_stl([face[0], [0.0, x, 0.0], face[2], face[0]], 0).status, 4);
+    }
+    let empty = write_stl::Input { vertices: vec![], indices: vec![], lent: write_sheet::lent(vec![9; 84]) };
+    let left = write_stl::judged(&empty);
+    assert_eq!((left.counts, &left.lent.points), (vec![84], &vec![0; 84]));
+    assert_eq!(read_with(&left.lent.points, [0; 3]).counts, [0, 0]);
 }
 
 #[test]

@@ -56,8 +56,13 @@ fn a_damaged_answer_is_seen() {
 #[test]
 #[cfg(original)]
 fn the_stored_rows_are_the_makers() {
-    let programs =
-        [("", "replay"), ("strokes", "replay_strokes"), ("meshes", "replay_meshes"), ("sheets", "replay_sheets")];
+    let programs = [
+        ("", "replay"),
+        ("strokes", "replay_strokes"),
+        ("meshes", "replay_meshes"),
+        ("sheets", "replay_sheets"),
+        ("stl", "replay_stl"),
+    ];
     for (word, program) in programs {
         let made = std::process::Command::new(env!("CARGO_BIN_EXE_rows")).arg(word).output().unwrap();
         assert!(made.status.success());

@@ -3,7 +3,7 @@
 use crate::call::Call;
 use crate::source::{MOST_STROKES, Strokes};
 use crate::strokes::{View, chop_adaptive_of, chop_of, reader_of, simplify_of, splice_of};
-use crate::{meshes, sheets};
+use crate::{files, meshes, sheets};
 use ramikohy::Sight;
 
 /// A call, what is large about it, and the status that it must have.
@@ -17,6 +17,7 @@ pub struct Large {
 const MOST_POINTS: usize = 1_048_576;
 const MOST_TO_SIMPLIFY: usize = 4_096;
 const MOST_FACES: usize = 65_536;
+const MOST_VERTICES: usize = 196_608;
 
 fn large(what: &'static str, call: Call, status: u32) -> Large {
     Large { what, call, status }
@@ -24,7 +25,7 @@ fn large(what: &'static str, call: Call, status: u32) -> Large {
 
 /// Every one of them.
 pub fn all() -> Vec<Large> {
-    [cuts(), adaptive(), simplified(), numbered(), welds(), sections(), drawings(), sheets()]
+    [cuts(), adaptive(), simplified(), numbered(), welds(), sections(), drawings(), sheets(), read(), written()]
         .into_iter()
         .flatten()
         .collect()
@@ -122,7 +123,7 @@ fn sheet_of_faces(faces: usize) -> (Vec<f64>, Vec<u32>) {
 /// The corners of as many faces.
 fn corners(faces: usize) -> Vec<f64> {
     let (vertices, indices) = sheet_of_faces(faces);
-    indices.iter().flat_map(|&v| vertices[v as usize * 3..][..3].to_vec()).collect()
+    files::gathered(&vertices, &indices)
 }
 
 fn welds() -> Vec<Large> {
@@ -182,5 +183,52 @@ fn sheets() -> Vec<Large> {
         large("one vertex more", sheets::write_sheet_of(&most, 3, vertices + 1, bytes.len()), 2),
         large("1,048,576 points, 196,608 strokes", read, 0),
         large("one vertex more", sheets::read_sheet_of(&bytes, [MOST_POINTS, MOST_STROKES]), 9),
+    ]
+}
+
+/// The file of as many faces, with normals that are NaN.
+fn file(faces: usize) -> Vec<u8> {
+    let corners: Vec<f32> = corners(faces).iter().map(|&x| x as f32).collect();
+    files::bytes_of(&corners, 0xFF)
+}
+
+/// The same with a word put at a place.
+fn file_with(faces: usize, at: usize, word: u32) -> Vec<u8> {
+    let mut bytes = file(faces);
+    bytes[at..at + 4].copy_from_slice(&word.to_le_bytes());
+    bytes
+}
+
+fn read() -> Vec<Large> {
+    let of = |bytes: &[u8]| files::read_stl_of(bytes, 0);
+    let whole = file(MOST_FACES);
+    let last = whole.len() - 6;
+    vec![
+        large("65,536 faces", of(&whole), 0),
+        large("65,536 faces, the last number NaN", of(&file_with(MOST_FACES, last, 0x7FC0_0000)), 4),
+        large("one more, the last number NaN", of(&file_with(MOST_FACES + 1, last + 50, 0x7FC0_0000)), 2),
+        large("65,536 faces and a byte less", of(&whole[..whole.len() - 1]), 11),
+        large("the greatest count in 134 bytes", of(&file_with(1, 80, u32::MAX)), 11),
+        large("a count whose length wraps to that of 65,536", of(&file_with(MOST_FACES, 80, 0x8001_0000)), 11),
+    ]
+}
+
+/// As many faces, each on three vertices of its own as long as there are any; the last that is named is moved to x.
+fn apart(faces: usize, x: f64) -> (Vec<f64>, Vec<u32>) {
+    let indices: Vec<u32> = (0..3 * faces as u32).map(|i| i % MOST_VERTICES as u32).collect();
+    let mut vertices: Vec<f64> = (0..3 * MOST_VERTICES).map(|i| (i % 4001) as f64 * 0.25).collect();
+    vertices[3 * indices[indices.len() - 1] as usize] = x;
+    (vertices, indices)
+}
+
+fn written() -> Vec<Large> {
+    let of = |(vertices, indices): (Vec<f64>, Vec<u32>)| files::write_stl_of(&vertices, &indices, 0);
+    let (mut vertices, indices) = apart(MOST_FACES - 1, 0.5);
+    vertices[3 * MOST_VERTICES - 1] = 0.1;
+    vec![
+        large("65,536 faces, 196,608 vertices", of(apart(MOST_FACES, 0.5)), 0),
+        large("the last corner no f32", of(apart(MOST_FACES, 0.1)), 4),
+        large("the last vertex no f32, but no corner", of((vertices, indices)), 0),
+        large("one face more", of(apart(MOST_FACES + 1, 0.1)), 2),
     ]
 }

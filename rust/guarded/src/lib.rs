@@ -10,6 +10,7 @@ pub mod pages;
 pub mod source;
 
 pub mod arithmetic;
+pub mod files;
 pub mod meshes;
 pub mod sheets;
 pub mod strokes;
@@ -23,7 +24,7 @@ use call::Call;
 use source::Source;
 
 /// A maker for each call on lists. The reader's three functions are tried as one.
-pub const CALLS: [fn(&mut Source) -> Call; 10] = [
+pub const CALLS: [fn(&mut Source) -> Call; 12] = [
     strokes::chop,
     strokes::splice,
     strokes::chop_adaptive,
@@ -34,6 +35,8 @@ pub const CALLS: [fn(&mut Source) -> Call; 10] = [
     meshes::draw,
     sheets::write_sheet,
     sheets::read_sheet,
+    files::read_stl,
+    files::write_stl,
 ];
 
 /// The call that these bytes stand for: the first says which function, mostly one on lists.

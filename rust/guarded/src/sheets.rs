@@ -51,7 +51,7 @@ pub fn bytes_of(strokes: &Strokes<u32>, mode: u32, vertices: u32) -> Vec<u8> {
 }
 
 /// A word at another value, bytes cut off or added, a bit turned.
-fn damage(s: &mut Source, bytes: &mut Vec<u8>) {
+pub fn damage(s: &mut Source, bytes: &mut Vec<u8>) {
     let (at, by) = (s.below(256), s.byte());
     match s.below(5) {
         0 | 1 if bytes.len() >= 4 => {

@@ -32,6 +32,23 @@ const ODD: [f64; 16] = [
     9007199254740992.0,
 ];
 
+/// Patterns of f32 at the ends of the ranges: subnormal ones, the least normal one, the greatest coordinates, just past
+/// them, and what is no number.
+const ODD_PATTERNS: [u32; 12] = [
+    0x0000_0001,
+    0x8000_0001,
+    0x807F_FFFF,
+    0x0080_0000,
+    0x4980_0000,
+    0xC980_0000,
+    0x4980_0001,
+    0xC980_0001,
+    0x7F80_0000,
+    0xFF80_0000,
+    0x7F80_0001,
+    0xFFC0_0000,
+];
+
 /// Random bytes (splitmix64), the same for a seed everywhere.
 pub fn random_bytes(seed: u64, len: usize) -> Vec<u8> {
     let word = |i: u64| {
@@ -135,6 +152,24 @@ impl<'a> Source<'a> {
         (list, scale)
     }
 
+    /// Any pattern of an f32, or an odd one.
+    pub fn pattern(&mut self) -> u32 {
+        if self.once_in(2) { self.word() } else { self.one_of(&ODD_PATTERNS) }
+    }
+
+    /// Coordinates of `points` points that are f32: few values, at any scale, so that points coincide; at times a -0,
+    /// and now and then an odd one.
+    pub fn singles(&mut self, points: usize) -> Vec<f32> {
+        let scale = self.one_of(&[1.0, 0.25, 1e-7, 2.5e-7, 5e-7, 1e-6, 65536.0, f32::from_bits(1), f32::MIN_POSITIVE]);
+        let about = self.one_of(&[0.0, 0.0, 0.0, 0.0, 0.0, 1.0, 1000.0, -1048575.5]);
+        let one = |b: u8, s: &mut Self| match b {
+            254.. => f32::from_bits(s.pattern()),
+            240.. => -0.0,
+            b => (b % 9) as f32 * scale - 4.0 * scale + about,
+        };
+        (0..3 * points).map(|_| one(self.byte(), self)).collect()
+    }
+
     /// The lengths of a few strokes, empty ones too.
     fn lengths(&mut self) -> Vec<usize> {
         let strokes = self.some(9);
@@ -180,7 +215,13 @@ impl<'a> Source<'a> {
     /// Vertices and the vertex numbers of faces: few, so that edges are shared.
     pub fn mesh(&mut self) -> (Vec<f64>, Vec<u32>) {
         let count = 1 + self.some(8);
-        let (vertices, faces) = (self.coordinates(count).0, self.some(13));
+        let vertices = self.coordinates(count).0;
+        (vertices, self.faces(count))
+    }
+
+    /// The vertex numbers of a few faces, most of them below `count`; now and then one too few.
+    pub fn faces(&mut self, count: usize) -> Vec<u32> {
+        let faces = self.some(13);
         let mut one = || match self.byte() {
             255 => self.word(),
             254 => count as u32,
@@ -190,6 +231,6 @@ impl<'a> Source<'a> {
         if self.once_in(64) {
             indices.pop();
         }
-        (vertices, indices)
+        indices
     }
 }

@@ -2,6 +2,7 @@
 
 use guarded::buffer::Slice;
 use guarded::call::{Answer, Call};
+use guarded::files::{bytes_of, read_stl_of, write_stl_of};
 use guarded::meshes::draw_of;
 use guarded::pages::Side;
 use guarded::rows::{self, Row};
@@ -49,6 +50,8 @@ fn every_function_keeps_to_what_it_is_lent() {
     assert_eq!(statuses("ramikohy_draw"), [0, 1, 3, 4, 7, 10]);
     assert_eq!(statuses("ramikohy_write_sheet"), [0, 1, 2, 3, 4]);
     assert_eq!(statuses("ramikohy_read_sheet"), [0, 9]);
+    assert_eq!(statuses("ramikohy_read_stl"), [0, 4, 11]);
+    assert_eq!(statuses("ramikohy_write_stl"), [0, 1, 3, 4]);
 }
 
 #[test]
@@ -195,6 +198,54 @@ fn a_wrong_face_is_seen() {
     assert!(is_seen(told(line, 2, None, Some(0))), "a face that has a normal");
     assert!(is_seen(told(twice, 2, Some(10), None)), "two corners alike as three");
     assert!(is_seen(told(line, 2, Some(7), None)), "three corners as two alike");
+}
+
+/// A file of one face is read; its last corner is the first but for the sign of a zero.
+fn one_read() -> Call {
+    read_stl_of(&bytes_of(&[-0.0, 0.0, 0.0, 1.0, 0.0, 0.0, 0.0, 0.0, 0.0], 0xFF), 1)
+}
+
+/// That face is written.
+fn one_written() -> Call {
+    write_stl_of(&[-0.0, 0.0, 0.0, 1.0, 0.0, 0.0], &[0, 1, 0], 1)
+}
+
+/// A file that is cut off anywhere is none, and nothing behind the cut is read.
+#[test]
+fn a_file_that_is_cut_off_is_none() {
+    let file = bytes_of(&[0.5; 18], 0xFF);
+    assert_eq!(read_stl_of(&file, 1).try_all(0), 0);
+    for len in 0..file.len() {
+        assert_eq!(read_stl_of(&file[..len], 1).try_all(0), 11, "{len} bytes");
+    }
+}
+
+/// A call that turns a bit of a buffer when it is done.
+fn turned(of: fn() -> Call, buffer: usize, bit: usize) -> Call {
+    let work = move |b: &[Slice]| {
+        let answer = (of().work)(b);
+        // SAFETY: the buffer has more bits.
+        unsafe { *b[buffer].to::<u8>().add(bit / 8) ^= 1 << (bit % 8) };
+        answer
+    };
+    Call { work: Box::new(work), ..of() }
+}
+
+/// A file or a mesh that is wrong in one bit is seen.
+#[test]
+fn a_wrong_file_is_seen() {
+    assert!(!is_seen(one_read()) && !is_seen(one_written()));
+    assert!(is_seen(turned(one_read, 2, 63)), "a zero without its sign");
+    assert!(is_seen(turned(one_read, 2, 192)), "another vertex");
+    assert!(is_seen(turned(one_read, 3, 64)), "a corner at another vertex");
+    assert!(is_seen(turned(one_read, 3, 33)), "an index of no vertex");
+    assert!(is_seen(turned(one_read, 4, 0)), "a vertex too many");
+    assert!(is_seen(turned(one_written, 2, 0)), "a header that is not zero");
+    assert!(is_seen(turned(one_written, 2, 8 * 80 + 1)), "another count");
+    assert!(is_seen(turned(one_written, 2, 8 * 84)), "a normal that is not zero");
+    assert!(is_seen(turned(one_written, 2, 8 * 100 - 1)), "a zero without its sign");
+    assert!(is_seen(turned(one_written, 2, 8 * 108)), "another corner");
+    assert!(is_seen(turned(one_written, 2, 8 * 133)), "bytes after the face that are not zero");
 }
 
 /// A chop that rewrites the first NaN of its room with the same value, in another pattern: refused, and accepted with that room past

@@ -4,7 +4,7 @@ use mathlib.Core.Path.{sym, _∙_}
 use borrow.Author.Tests.{not-true, not-false}
 use Rattle.refusal.specs.Refusals.{unless}
 use Rattle.mesh_draw.specs.Call.{verdictOf}
-use Rattle.mesh_draw.proofs.Tests.{few-faces}
+use Rattle.mesh.proofs.Tests.{few-faces}
 use Rattle.mesh_draw.proofs.draw_verdict.Statement.{statement}
 use Rattle.mesh_draw.proofs.draw_verdict.Tie as tie
 

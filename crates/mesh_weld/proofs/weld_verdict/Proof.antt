@@ -26,8 +26,8 @@ returns-3 c = simp (
   sym (c .before .coordinates-good .ensures) ∙ not-true _ (c .if3 .taken),
 )
 
-mul-if4 : tie.Need-mul-if4
-mul-if4 c = search needs
+lent-verdict-requires : tie.Need-lent-verdict-requires
+lent-verdict-requires c κs = search needs
 
 returns-4 : tie.Need-returns-4
 unfolding verdictOf unless
@@ -35,46 +35,7 @@ returns-4 c = simp (
   eq-eqb _ _ (c .before .before .before .before .if1 .left),
   le-leb _ _ (c .before .before .before .if2 .left),
   sym (c .before .before .coordinates-good .ensures) ∙ not-false _ (c .before .if3 .left),
-  lt-leb _ _ (c .if4 .taken),
-)
-
-mul-if5 : tie.Need-mul-if5
-mul-if5 c = search needs
-
-returns-5 : tie.Need-returns-5
-unfolding verdictOf unless
-returns-5 c = simp (
-  eq-eqb _ _ (c .before .before .before .before .before .if1 .left),
-  le-leb _ _ (c .before .before .before .before .if2 .left),
-  sym (c .before .before .before .coordinates-good .ensures) ∙ not-false _ (c .before .before .if3 .left),
-  le-leb _ _ (c .before .if4 .left),
-  lt-leb _ _ (c .if5 .taken),
-)
-
-mul-if6 : tie.Need-mul-if6
-mul-if6 c = search needs
-
-returns-6 : tie.Need-returns-6
-unfolding verdictOf unless
-returns-6 c = simp (
-  eq-eqb _ _ (c .before .before .before .before .before .before .if1 .left),
-  le-leb _ _ (c .before .before .before .before .before .if2 .left),
-  sym (c .before .before .before .before .coordinates-good .ensures) ∙ not-false _ (c .before .before .before .if3 .left),
-  le-leb _ _ (c .before .before .if4 .left),
-  le-leb _ _ (c .before .if5 .left),
-  lt-leb _ _ (c .if6 .taken),
-)
-
-returns-7 : tie.Need-returns-7
-unfolding verdictOf unless
-returns-7 c = simp (
-  eq-eqb _ _ (c .before .before .before .before .before .before .if1 .left),
-  le-leb _ _ (c .before .before .before .before .before .if2 .left),
-  sym (c .before .before .before .before .coordinates-good .ensures) ∙ not-false _ (c .before .before .before .if3 .left),
-  le-leb _ _ (c .before .before .if4 .left),
-  le-leb _ _ (c .before .if5 .left),
-  le-leb _ _ (c .if6 .left),
-)
+) (c .lent-verdict .ensures)
 
 pub weld-verdict-spec : {M : Type 1} → statement M
 weld-verdict-spec =
@@ -84,10 +45,5 @@ weld-verdict-spec =
     returns-2
     coordinates-good-requires
     returns-3
-    mul-if4
-    returns-4
-    mul-if5
-    returns-5
-    mul-if6
-    returns-6
-    returns-7)
+    lent-verdict-requires
+    returns-4)

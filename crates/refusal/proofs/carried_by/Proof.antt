@@ -41,6 +41,9 @@ enum-told-8 c = search needs
 enum-known-r-2 : tie.Need-enum-known-r-2
 enum-known-r-2 c = search needs
 
+enum-told-9 : tie.Need-enum-told-9
+enum-told-9 c = search needs
+
 returns : tie.Need-returns
 returns c = carries (c .enum-told .given .1)
 
@@ -71,6 +74,9 @@ returns-9 c = carries (c .enum-told8 .given .1)
 returns-10 : tie.Need-returns-10
 returns-10 c = carries (c .before .r2 .given .1)
 
+returns-11 : tie.Need-returns-11
+returns-11 c = carries (c .enum-told9 .given .1)
+
 pub carried-by-spec : {M : Type 1} → statement M
 carried-by-spec =
     tie.close
@@ -85,6 +91,7 @@ carried-by-spec =
     enum-told-7
     enum-told-8
     enum-known-r-2
+    enum-told-9
     returns
     returns-2
     returns-3
@@ -94,4 +101,5 @@ carried-by-spec =
     returns-7
     returns-8
     returns-9
-    returns-10)
+    returns-10
+    returns-11)

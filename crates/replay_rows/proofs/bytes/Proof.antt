@@ -1,4 +1,4 @@
--- `bytes` meets its contract. Of the 96 bytes those before i are as the page's words from the place on say, and the
+-- `bytes` meets its contract. Of the 249 bytes those before i are as the page's words from the place on say, and the
 -- others are still 0; the bytes that are left fall.
 use borrow.Author.Needs.{needs}
 use native.Mathlib.Omega.{arith}
@@ -12,10 +12,10 @@ use Rattle.replay_rows.proofs.bytes.Statement.{statement}
 use Rattle.replay_rows.proofs.bytes.Tie as tie
 
 abbrev Inv-loop : tie.InvT-loop
-Inv-loop page at list₀ i₀ list i = (i ≤ 96) × (list ≡ filled (λ (j : ℕ). byteOf page (pastOf at j)) (replicate 96 0) i) × (length list ≡ 96)
+Inv-loop page at list₀ i₀ list i = (i ≤ 249) × (list ≡ filled (λ (j : ℕ). byteOf page (pastOf at j)) (replicate 249 0) i) × (length list ≡ 249)
 
 abbrev μ-loop : tie.MeasureT-loop
-μ-loop page at list₀ i₀ list i = 96 - i
+μ-loop page at list₀ i₀ list i = 249 - i
 
 loop-holds : tie.Need-loop-holds Inv-loop μ-loop
 unfolding filled
@@ -40,10 +40,10 @@ loop-again : tie.Need-loop-again Inv-loop μ-loop
 loop-again c =
     let z = c .before .before .before .before .args in
     let l = c .before .before .before .loop in
-    (omega arith, fill-turn (λ (j : ℕ). byteOf (z .page .now) (pastOf (z .at) j)) (replicate 96 0) (l .list) (l .i) _ (l .inv .1) (c .byte .ensures ∙ ap (byteOf (z .page .now)) (c .before .past .ensures)), rw length-set (l .inv .2))
+    (omega arith, fill-turn (λ (j : ℕ). byteOf (z .page .now) (pastOf (z .at) j)) (replicate 249 0) (l .list) (l .i) _ (l .inv .1) (c .byte .ensures ∙ ap (byteOf (z .page .now)) (c .before .past .ensures)), rw length-set (l .inv .2))
 
 returns : tie.Need-returns Inv-loop μ-loop
-returns c = let l = c .before .loop in (fill-end _ (replicate 96 0) (l .list) (l .i) 96 (l .inv .1) (omega arith), l .inv .2)
+returns c = let l = c .before .loop in (fill-end _ (replicate 249 0) (l .list) (l .i) 249 (l .inv .1) (omega arith), l .inv .2)
 
 pub bytes-spec : {M : Type 1} → statement M
 bytes-spec =

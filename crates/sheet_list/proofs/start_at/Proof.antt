@@ -2,7 +2,8 @@
 use mathlib.Core.Path.{_∙_}
 use native.Mathlib.Omega.{arith}
 use Rattle.sheet.specs.Sheets.{headerWords, wordAt}
-use Rattle.sheet_list.proofs.Inks.{start-in, start-past}
+use Rattle.path.proofs.Gathers.{gather-at}
+use Rattle.sheet_list.proofs.Inks.{start-past}
 use borrow.Author.Needs.{needs}
 use Rattle.sheet_list.proofs.start_at.Statement.{statement}
 use Rattle.sheet_list.proofs.start_at.Tie as tie
@@ -19,7 +20,7 @@ cast-result c = search needs
 returns : tie.Need-returns
 returns c =
     let a = c .before .before .before .args in
-    (c .word-at .ensures ∙ start-in (wordAt (a .bytes .now)) headerWords (a .strokes) (a .i) (a .points) (c .before .if1 .taken), omega arith)
+    (c .word-at .ensures ∙ gather-at (wordAt (a .bytes .now)) headerWords (a .strokes) (a .i) (a .points) (c .before .if1 .taken), omega arith)
 
 returns-2 : tie.Need-returns-2
 returns-2 c =

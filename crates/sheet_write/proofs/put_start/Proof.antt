@@ -6,8 +6,8 @@ use native.Mathlib.Omega.{arith}
 use lib.ListN.{length, getD}
 use lib.Seq.{sets}
 use borrow.Author.Tests.{not-true, not-false}
-use Rattle.sheet.specs.Sheets.{bytesAll}
-use Rattle.sheet.proofs.Words.{put-one, put-none}
+use Rattle.bytes.specs.Bytes.{bytesAll}
+use Rattle.bytes.proofs.Words.{put-one, put-none}
 use Rattle.sheet_write.proofs.Kepts.{at-some, at-none}
 use borrow.Author.Needs.{needs}
 use Rattle.sheet_write.proofs.put_start.Statement.{statement}

@@ -4,7 +4,8 @@ use mathlib.Core.Path.{ap, _∙_}
 use Prim.Native.Nat.{ℕ, _+_, _*_}
 use lib.ListN.{length}
 use lib.Seq.{sets}
-use Rattle.sheet.specs.Sheets.{bytesAll, headerOf, modeWord}
+use Rattle.bytes.specs.Bytes.{bytesAll}
+use Rattle.sheet.specs.Sheets.{headerOf, modeWord}
 use Rattle.sheet.specs.InnerKept.{keptFrom}
 use Rattle.sheet_write.proofs.Calls.{all-put}
 use Rattle.sheet_write.proofs.write_all.Statement.{statement}

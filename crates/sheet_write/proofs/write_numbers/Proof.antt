@@ -7,7 +7,7 @@ use Prim.Native.Nat.{_+_, _-_, _*_, _≤_}
 use native.Mathlib.Omega.{arith}
 use native.Mathlib.Nat.{add-zero}
 use lib.ListN.{length, drop}
-use Rattle.sheet.specs.Sheets.{bytesAll}
+use Rattle.bytes.specs.Bytes.{bytesAll}
 use Rattle.sheet_write.proofs.Kepts.{number-turn, number-end}
 use Rattle.sheet_write.proofs.write_numbers.Statement.{statement}
 use Rattle.sheet_write.proofs.write_numbers.Tie as tie

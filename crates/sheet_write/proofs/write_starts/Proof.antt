@@ -7,7 +7,8 @@ use borrow.Author.Needs.{needs}
 use Prim.Native.Nat.{_+_, _-_, _*_, _≤_}
 use native.Mathlib.Omega.{arith}
 use lib.ListN.{length, drop}
-use Rattle.sheet.specs.Sheets.{headerWords, numbersFrom, bytesAll}
+use Rattle.bytes.specs.Bytes.{bytesAll}
+use Rattle.sheet.specs.Sheets.{headerWords, numbersFrom}
 use Rattle.sheet.specs.InnerKept.{keptFrom}
 use Rattle.sheet_write.proofs.write_starts.Statement.{statement}
 use Rattle.sheet_write.proofs.write_starts.Tie as tie

@@ -50,6 +50,34 @@ fn main() {
     for call in calls::SHEETS.iter().filter(|call| call.name.starts_with(&word)) {
         println!("{}", compare::bench::rate(call, RUNS));
     }
+    stl(&word);
+}
+
+/// What is told of STL files.
+#[cfg(original)]
+fn stl(word: &str) {
+    println!("\n## STL files\n");
+    println!("The original has none. The torus, its vertices made f32, is written and read; growth as above.\n");
+    println!("| call | bytes | port, ms | MB a second | growth |");
+    println!("|---|---|---|---|---|");
+    for call in calls::FILED.iter().filter(|call| call.name.starts_with(word)) {
+        println!("{}", compare::bench::rate(call, RUNS));
+    }
+    println!(
+        "\nReading is testing and welding: by turns, a file is read and its corners, as f64, are welded. The original\n\
+         welds the same. As many faces as the torus has (long ways: best of 5); growth as above.\n"
+    );
+    println!("| file | read, ms | weld, ms | read / weld | original's weld, ms | growth |");
+    println!("|---|---|---|---|---|---|");
+    for file in calls::FILES.iter().filter(|file| file.name.starts_with(word)) {
+        println!("{}", compare::bench::file(file, calls::read_beside));
+    }
+    println!("\nFiles that are refused, with nothing lent.\n");
+    println!("| file | bytes | refused by | port, ms |");
+    println!("|---|---|---|---|");
+    for file in calls::REFUSED.iter().filter(|file| file.name.starts_with(word)) {
+        println!("{}", calls::refused(file, RUNS));
+    }
 }
 
 #[cfg(original)]
@@ -57,9 +85,11 @@ const RUNS: usize = 25;
 
 #[cfg(original)]
 mod calls {
-    use compare::bench::{Call, Rated, best};
+    use compare::bench::{Call, File, Rated, best, best_by_turns};
+    use compare::calls::write_stl::bytes_of;
     use compare::crowded;
     use compare::cuts::Cut;
+    use compare::random::Random;
     use compare::torus::Mesh;
     use original::eps_1e9::{
         matrix::Matrix, mesh, mesh::MeshTexture, path::Paths, plane::Plane, shape::RenderArgs, shape::Shape,
@@ -279,6 +309,73 @@ mod calls {
     /// What the original lacks.
     pub const SHEETS: &[Rated] =
         &[Rated { name: "write_sheet", port: write_sheet_port }, Rated { name: "read_sheet", port: read_sheet_port }];
+
+    pub const FILED: &[Rated] = &[
+        Rated { name: "write_stl", port: |mesh, runs| write_stl_of(&singles(mesh), runs) },
+        Rated {
+            name: "write_stl, a vertex that no face names is no f32",
+            port: |mesh, runs| {
+                let mut mesh = singles(mesh);
+                mesh.vertices.push([0.1; 3]);
+                write_stl_of(&mesh, runs)
+            },
+        },
+        Rated {
+            name: "write_stl, no vertex in two faces, in a mixed order",
+            port: |mesh, runs| write_stl_of(&singles(&scattered(mesh)), runs),
+        },
+        Rated { name: "read_stl", port: read_stl_port },
+    ];
+
+    /// The torus, and files made to hurt.
+    pub const FILES: &[File] = &[
+        File { name: "read_stl, the torus", corners: |mesh| singles(mesh).corners(), runs: 25 },
+        File { name: "read_stl, all corners in one cell", corners: |mesh| anywhere(mesh, 1e-6, 1.0), runs: 25 },
+        File { name: "read_stl, every coordinate subnormal", corners: |mesh| anywhere(mesh, 1e-38, -1.0), runs: 25 },
+        File { name: "read_stl, every coordinate 0 or -0", corners: |mesh| anywhere(mesh, 0.0, -1.0), runs: 25 },
+        File { name: "read_stl, corners anywhere", corners: |mesh| anywhere(mesh, 1048576.0, -1.0), runs: 25 },
+        File {
+            name: "read_stl, a grid as dense as vertices lie",
+            corners: |mesh| cluster(mesh, 1.000001e-6),
+            runs: 25,
+        },
+        File { name: "read_stl, nothing near anything", corners: |mesh| cluster(mesh, 1.0), runs: 25 },
+        File {
+            name: "read_stl, corners made for one bucket",
+            corners: |mesh| crowded::singles_in_one_bucket(mesh.faces.len() * 3, 0),
+            runs: 25,
+        },
+        File {
+            name: "read_stl, the same with 12 bits alike",
+            corners: |mesh| crowded::singles_in_one_bucket(mesh.faces.len() * 3, 12),
+            runs: 25,
+        },
+        File {
+            name: "read_stl, long ways at forty places, mixed",
+            corners: |mesh| crowded::many_single_ways(mesh.faces.len() * 3),
+            runs: 5,
+        },
+        File {
+            name: "read_stl, the longest ways found, asked in turn",
+            corners: |mesh| crowded::longest_single_ways(mesh.faces.len() * 3),
+            runs: 5,
+        },
+    ];
+
+    /// A file that is refused.
+    pub struct Refused {
+        pub name: &'static str,
+        bytes: fn() -> Vec<u8>,
+    }
+
+    pub const REFUSED: &[Refused] = &[
+        Refused { name: "read_stl, no bytes", bytes: Vec::new },
+        Refused { name: "read_stl, a million faces by the length, none by the count", bytes: || counted(1_000_000, 0) },
+        Refused { name: "read_stl, a million faces", bytes: || counted(1_000_000, 1_000_000) },
+        Refused { name: "read_stl, 65,537 faces, every byte of them FF", bytes: || counted(65_537, 65_537) },
+        Refused { name: "read_stl, 65,536 faces, a NaN at the end", bytes: nan_at_the_end },
+        Refused { name: "read_stl, 65,536 good faces", bytes: || bytes_of(&[0.0; 9].repeat(65_536)) },
+    ];
 
     /// As many edges as the mesh has, by a rule on their number.
     fn made_edges(mesh: &Mesh, edge: impl Fn(u32, u32) -> [u32; 2]) -> Vec<[u32; 2]> {
@@ -735,6 +832,87 @@ mod calls {
             black_box((&mut points, &mut starts));
         });
         (sheet.len(), seconds)
+    }
+
+    /// The mesh with the nearest f32 to each coordinate.
+    fn singles(mesh: &Mesh) -> Mesh {
+        let vertices = mesh.vertices.iter().map(|v| v.map(|x| x as f32 as f64)).collect();
+        Mesh { vertices, faces: mesh.faces.clone() }
+    }
+
+    /// As many faces that share no vertex, each with vertices from all over the list. The counts of corners are not
+    /// multiples of 7,919.
+    fn scattered(mesh: &Mesh) -> Mesh {
+        let mut apart = mesh.apart();
+        let n = apart.vertices.len() as u64;
+        apart.faces.as_flattened_mut().iter_mut().for_each(|v| *v = (*v as u64 * 7919 % n) as u32);
+        apart
+    }
+
+    fn write_stl_of(mesh: &Mesh, runs: usize) -> (usize, f64) {
+        let (vertices, indices) = (mesh.vertices.as_flattened(), mesh.faces.as_flattened());
+        let mut file = vec![0; 84 + 50 * mesh.faces.len()];
+        let seconds = best(runs, || {
+            lent::write_stl(vertices, indices, &mut file).unwrap();
+            black_box(&mut file);
+        });
+        (file.len(), seconds)
+    }
+
+    fn read_stl_port(mesh: &Mesh, runs: usize) -> (usize, f64) {
+        let corners = singles(mesh).corners();
+        let bytes = 84 + 50 * mesh.faces.len();
+        (bytes, read_and_weld(&corners, runs)[0])
+    }
+
+    /// The seconds of reading the file of these corners, and of welding them, in the same buffers.
+    fn read_and_weld(corners: &[[f64; 3]], runs: usize) -> [f64; 2] {
+        let (bytes, coords) = (bytes_of(corners.as_flattened()), corners.as_flattened());
+        let (mut vertices, mut indices) = (vec![0.0; coords.len()], vec![0; corners.len()]);
+        let mut scratch = vec![0; 4 * corners.len()];
+        best_by_turns(runs, |which| {
+            let wrote = match which {
+                0 => lent::read_stl(&bytes, &mut scratch, &mut vertices, &mut indices),
+                _ => lent::weld(coords, &mut scratch, &mut vertices, &mut indices),
+            };
+            black_box((wrote.unwrap(), &mut vertices, &mut indices));
+        })
+    }
+
+    /// The same, and the seconds of the original's weld.
+    pub fn read_beside(corners: &[[f64; 3]], runs: usize) -> [f64; 3] {
+        let [read, weld] = read_and_weld(corners, runs);
+        [read, weld, get_or_insert_of(corners, runs.min(5))]
+    }
+
+    /// As many corners as the mesh has, at random up to a bound, one in two times the sign, as f32.
+    fn anywhere(mesh: &Mesh, most: f64, sign: f64) -> Vec<[f64; 3]> {
+        let mut random = Random::new(11);
+        let mut any = || (random.unit() * most * random.one_of(&[1.0, sign])) as f32 as f64;
+        (0..3 * mesh.faces.len()).map(|_| [any(), any(), any()]).collect()
+    }
+
+    /// A file of so many faces, by its count as many as is said, every byte of them FF.
+    fn counted(faces: usize, said: u32) -> Vec<u8> {
+        let mut bytes = vec![0xFF; 84 + 50 * faces];
+        bytes[80..84].copy_from_slice(&said.to_le_bytes());
+        bytes
+    }
+
+    /// The torus with a NaN as its last coordinate.
+    fn nan_at_the_end() -> Vec<u8> {
+        let mut corners = compare::torus::wavy(256, 128).corners().concat();
+        *corners.last_mut().unwrap() = f64::NAN;
+        bytes_of(&corners)
+    }
+
+    /// A line of the table of files that are refused.
+    pub fn refused(file: &Refused, runs: usize) -> String {
+        let bytes = (file.bytes)();
+        let mut why = None;
+        let seconds = best(runs, || why = black_box(lent::read_stl(&bytes, &mut [], &mut [], &mut [])).err());
+        let number = why.map_or(0, |why| why.number());
+        format!("| {} | {} | {number} | {:.4} |", file.name, bytes.len(), seconds * 1e3)
     }
 
     /// A slanted plane through the torus.

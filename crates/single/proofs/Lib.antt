@@ -1,0 +1,4 @@
+pub mod Cases
+pub mod Held
+pub mod Patterns
+pub mod Unique

@@ -1,0 +1,4 @@
+pub mod Meets
+pub mod Vertices
+pub mod Again
+pub mod Theorem

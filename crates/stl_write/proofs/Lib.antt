@@ -1,0 +1,5 @@
+pub mod Corners
+pub mod Calls
+pub mod Unique
+pub mod Back
+pub mod Cases
