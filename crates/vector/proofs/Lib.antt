@@ -9,6 +9,10 @@ pub mod RootGap
 pub mod RootSquare
 pub mod Order
 pub mod Shares
+pub mod Between
+pub mod Heron
+pub mod LastDigits
+pub mod NearRoot
 pub mod Far
 pub mod Zeros
 pub mod Abs

@@ -4,9 +4,10 @@ use mathlib.Core.Logic.{_⊎_, inl, inr, ⊎-elim}
 use lib.Dec.{T, ltb, ltb→lt, nltb→le, lit<, lit≤}
 use mathlib.Core.Bool.{Bool, true, false, not}
 use Prim.Native.Nat.{ℕ, zero, suc, _+_, _-_, _*_, _/_, _%_, _^_, _≤_, _<_}
-use native.Mathlib.Nat.{eq-or-lt-of-le, le-of-lt, lt-of-mul-lt-mul-right, mul-le-mul, mul-mul-mul-comm, not-le-of-lt, mul-pos, mul-assoc, lt-of-not-le, lt-irrefl, lt-of-le-of-lt, lt-of-lt-of-le, le-trans, le-of-eq, one-mul, mul-le-mul-left, mul-le-mul-right, mul-lt-mul-of-pos-right, mul-one, div-add-mod, mod-lt}
+use native.Mathlib.Nat.{eq-or-lt-of-le, le-of-lt, lt-of-mul-lt-mul-right, mul-le-mul, mul-mul-mul-comm, not-le-of-lt, mul-pos, mul-assoc, lt-of-not-le, lt-irrefl, lt-of-le-of-lt, lt-of-lt-of-le, le-trans, le-of-eq, mul-le-mul-left, mul-le-mul-right, mul-lt-mul-of-pos-right, mul-one, div-add-mod, mod-lt}
 use native.Mathlib.Omega.{arith}
-use lib.Pow.{pow-pos, pow-add, pow-mono}
+use lib.Pow.{pow-pos, pow-add, pow-mono, shl-exact}
+use lib.Count.{leadingZeros, leading-top}
 use Rattle.vector.specs.InnerSteps.{Digits, Normal, NearestUnits}
 use Rattle.vector.specs.Units.{at}
 
@@ -121,34 +122,40 @@ normal b h f = record { least = omega arith; most = omega arith; low = omega ari
         let s : b % 2 ^ 52 + 2 ^ 52 ≡ 2 ^ 52 + b % 2 ^ 52 = omega arith in
         rw (at-high b x p, p, s) (shift-to (2 ^ 52 + b % 2 ^ 52) x 1024 (suc x + 1023) (omega arith))
 
--- what the loop over a number without a leading digit keeps
-pub record Rising (n d e : ℕ) : Type 0 where
-  pub some : 0 < n
-  pub most : d < 2 ^ 53
-  pub low : 972 ≤ e
-  pub high : e ≤ 1024
-  pub same : n * 2 ^ 1024 ≡ d * 2 ^ e
+-- a number without a leading digit, moved up by the zeros before it
+module _ (b : ℕ) (some : 0 < b) (low : b / 2 ^ 52 ≤ 0) where
+  abbrev digitsOf : ℕ
+  digitsOf = b % 2 ^ 52
 
-pub rises : (b : ℕ) → 0 < b → b / 2 ^ 52 ≤ 0 → Rising (at b) (b % 2 ^ 52) 1024
-rises b p h = record { some = rw (at-low b h) (omega arith); most = omega arith; low = omega arith; high = omega arith; same = rw (at-low b h) }
+  abbrev zerosOf : ℕ
+  zerosOf = leadingZeros 64 digitsOf
 
-module _ {n d e : ℕ} (r : Rising n d e) (less : d < 2 ^ 52) where
-  -- n * 2 ^ 1024 is 2 ^ 1024 at least, and d below 2 ^ 52, so e is above 972
-  pub still : 972 < e
-  still = lt-of-not-le (λ (g : e ≤ 972).
-      lt-irrefl (2 ^ 1024)
-      (lt-of-le-of-lt (le-trans (le-of-eq (sym (one-mul (2 ^ 1024)))) (mul-le-mul-right (2 ^ 1024) (r .some)))
-      (lt-of-le-of-lt (le-of-eq (r .same))
-      (lt-of-le-of-lt (mul-le-mul-left d (pow-mono g)) (lt-of-lt-of-le (mul-lt-mul-of-pos-right less (pow-pos 972)) (le-of-eq (sym (pow-add 2 52 972))))))))
+  pub top : (j : ℕ) × (zerosOf + suc j ≡ 64) × (2 ^ j ≤ digitsOf) × (digitsOf < 2 ^ suc j)
+  top = leading-top 64 digitsOf (omega arith) (omega arith)
 
-  pub rises-more : Rising n (d * 2) (e - 1)
-  rises-more =
-      let g = still in
-      let k : 1 + (e - 1) ≡ e = omega arith in
-      record { some = r .some; most = omega arith; low = omega arith; high = omega (arith, r .high); same = r .same ∙ sym (shift-to d 1 (e - 1) e k) }
+  -- their first digit is at place 51 at most
+  pub few-digits : top .0 < 52
+  few-digits = lt-of-not-le (λ (g : 52 ≤ top .0). lt-irrefl (2 ^ 52) (lt-of-le-of-lt (le-trans (pow-mono g) (top .2)) (omega arith)))
 
-pub risen : {n d e : ℕ} → Rising n d e → 2 ^ 52 ≤ d → Normal n d e
-risen r h = record { least = h; most = r .most; low = r .low; high = omega (arith, r .high); same = r .same }
+  moved : digitsOf * 2 ^ (zerosOf - 11) % 2 ^ 64 ≡ digitsOf * 2 ^ (zerosOf - 11)
+  moved = shl-exact {a = digitsOf} (suc (top .0)) (zerosOf - 11) 64 (top .3) (omega (arith, top .1, few-digits))
+
+  pub raised : Normal (at b) (digitsOf * 2 ^ (zerosOf - 11) % 2 ^ 64) (1024 - (zerosOf - 11))
+  raised =
+      let z = zerosOf - 11 in
+      let j = top .0 in
+      let e : 52 ≡ j + z = omega (arith, top .1, few-digits) in
+      let f : suc j + z ≡ 53 = omega (arith, top .1, few-digits) in
+      let least : 2 ^ 52 ≡ 2 ^ j * 2 ^ z = ap (λ (x : ℕ). 2 ^ x) e ∙ pow-add 2 j z in
+      let most : 2 ^ suc j * 2 ^ z ≡ 2 ^ 53 = sym (pow-add 2 (suc j) z) ∙ ap (λ (x : ℕ). 2 ^ x) f in
+      rw moved
+      record {
+        least = le-trans (le-of-eq least) (mul-le-mul-right (2 ^ z) (top .2));
+        most = lt-of-lt-of-le (mul-lt-mul-of-pos-right (top .3) (pow-pos z)) (le-of-eq most);
+        low = omega (arith, top .1);
+        high = omega arith;
+        same = rw (at-low b low) (sym (shift-to digitsOf z (1024 - z) 1024 (omega (arith, top .1, few-digits))));
+      }
 
 -- ---- the numbers of at most 53 digits with zeros behind, about one that has a leading digit
 pub dn : (m j c k : ℕ) → m < 2 ^ 53 → 2 ^ 52 ≤ c → m * 2 ^ j < (c + 1) * 2 ^ k → m * 2 ^ j ≤ c * 2 ^ k

@@ -4,11 +4,13 @@ ghost use mathlib.Core.Path.{_≡_};
 ghost use Prim.Native.Nat.{_+_, _*_, _^_, _<_, _≤_};
 ghost use Rattle.vector.specs.Answers.{wholeSaid, rootSaid};
 ghost use Rattle.vector.specs.Floor.{floorOf};
-ghost use mathlib.Core.Bool.{true};
-ghost use lib.Ieee.{binary64, lt, mul};
+ghost use mathlib.Core.Bool.{true, false};
+ghost use mathlib.Core.List.{[], _∷_};
+ghost use lib.Ieee.{binary64, inf, lt, mul};
+ghost use Rattle.refusal.specs.Said.{accepted};
 ghost use Rattle.vector.specs.Root.{rootOf};
-ghost use Rattle.vector.specs.Lengths.{orNan};
-ghost use Rattle.vector.specs.InnerSteps.{Digits, Normal, NearestUnits};
+ghost use Rattle.vector.specs.Lengths.{orNan, zero64};
+ghost use Rattle.vector.specs.InnerSteps.{Digits, slopeOf, heightOf, roughOf, heronOf, Close, Normal, NearestUnits};
 ghost use Rattle.vector.specs.Units.{at};
 ghost use Rattle.vector.specs.Abs.{absOf};
 
@@ -59,50 +61,63 @@ struct Scaled {
     e: u64,
 }
 
-// A guess at the root of n: y, a product of two parabolas, is near 1 / root, and t near half the root; two of Newton's
-// steps take both nearer at once. Nothing is promised of it but that it is small; `lower` and `raise` mend it, and
-// seldom have one to mend.
-fn guess(n: u64) -> u64
-    requires { ⌜ n < 2 ^ 54 ⌝ }
-    ensures { λ r. ⌜ r < 2 ^ 28 ⌝ }
+// The slope of the line near the root of n: 53 / 2^32 below 2^53, 75 / 2^33 from there on. Two numbers are picked, and not
+// two ways gone: which of them it is cannot be foretold.
+fn slope(n: u64) -> f64
+    ensures { λ r. ⌜ r ≡ slopeOf n ⌝ }
 {
-    let m = (n / 2) as f64;
-    let h = m / 4503599627370496.0;
-    let u = m * 0.00000000000000013 - 1.495;
-    let v = m * 0.00000000000000013 - 0.343;
-    let y = (u * u + 0.294) * (v * v + 0.571);
-    let t = h * y;
-    let c = 1.5 - t * y;
-    let r = t * c;
-    let z = r * 134217728.0 * (1.5 - r * (y * c)) + 4503599627370495.5; // its last digits are those of the guess
-    if z > 0.0 {
-        return f64::to_bits(z) % 0x1000_0000;
+    if n < 0x20_0000_0000_0000 {
+        return 0.00000001234002411365509033203125;
     }
-    0
+    0.000000008731149137020111083984375
 }
 
-// From a guess down to a number whose square is not above n.
-fn lower(n: u64, g: u64) -> u64
-    requires { ⌜ g < 2 ^ 28 ⌝ }
-    ensures { λ r. ⌜ r * r ≤ n ⌝ }
+// The height at which that line begins.
+fn height(n: u64) -> f64
+    ensures { λ r. ⌜ r ≡ heightOf n ⌝ }
 {
-    let mut s = g;
-    while n < s * s {
-        s -= 1;
+    if n < 0x20_0000_0000_0000 {
+        return 39845888.0;
     }
-    s
+    56360960.0
 }
 
-// From a number whose square is not above n up to the greatest: the whole part of the root of n.
-fn raise(n: u64, g: u64) -> u64
-    requires { ⌜ (n < 2 ^ 54) × (g * g ≤ n) ⌝ }
+// A rough root of n, by h, half of n rounded up: what the line has there.
+fn rough(n: u64, h: f64) -> f64
+    ensures { λ r. ⌜ r ≡ roughOf n h ⌝ }
+{
+    h * slope(n) + height(n)
+}
+
+// Heron's step towards the root of n, by h, half of n rounded up: the mean of r and of n divided by r.
+fn heron(h: f64, r: f64) -> f64
+    ensures { λ s. ⌜ s ≡ heronOf h r ⌝ }
+{
+    h / r + r / 2.0
+}
+
+// The whole number nearest to what two of Heron's steps make of the rough root: the whole part of the root of n, or 1
+// above. Where 2^52 is added, the last digits of the pattern are that number.
+fn near_root(n: u64) -> u64
+    requires { ⌜ (2 ^ 52 ≤ n) × (n < 2 ^ 54) ⌝ }
+    ensures { λ r. ⌜ Close n r ⌝ }
+{
+    let h = ((n + 1) / 2) as f64;
+    let once = heron(h, rough(n, h));
+    let twice = heron(h, once);
+    f64::to_bits(twice + 4503599627370496.0) % 0x1000_0000
+}
+
+// The whole part of the root of n: one comparison of squares settles it.
+fn whole_root(n: u64) -> u64
+    requires { ⌜ (2 ^ 52 ≤ n) × (n < 2 ^ 54) ⌝ }
     ensures { λ r. ⌜ Digits n r ⌝ }
 {
-    let mut s = g;
-    while (s + 1) * (s + 1) <= n {
-        s += 1;
+    let r = near_root(n);
+    if n < r * r {
+        return r - 1;
     }
-    s
+    r
 }
 
 // The whole part of the root of n * 2^54: s, that of n, is the first half of its digits. The other half, q, comes
@@ -111,7 +126,7 @@ fn digits(n: u64) -> u64
     requires { ⌜ (2 ^ 52 ≤ n) × (n < 2 ^ 54) ⌝ }
     ensures { λ r. ⌜ (r < 2 ^ 54) × Digits (n * 2 ^ 54) r ⌝ }
 {
-    let s = raise(n, lower(n, guess(n)));
+    let s = whole_root(n);
     let rest = (n - s * s) * 0x800_0000;
     let q = rest / (2 * s);
     if rest % (2 * s) * 0x800_0000 < q * q {
@@ -121,7 +136,7 @@ fn digits(n: u64) -> u64
 }
 
 // The digits and the exponent of a positive number by its pattern, with an exponent that is 1024
-// too large for units of the smallest number. The digits of a subnormal are moved up.
+// too large for units of the smallest number. The digits of a subnormal are moved up at once, by the zeros before them.
 fn split(b: u64) -> Scaled
     requires { ⌜ (0 < b) × (b < 2047 * 2 ^ 52) ⌝ }
     ensures { λ r. ⌜ Normal (at b) (r .d) (r .e) ⌝ }
@@ -134,13 +149,11 @@ fn split(b: u64) -> Scaled
             e: f + 1023,
         };
     }
-    let mut d = t;
-    let mut e: u64 = 1024;
-    while d < 0x10_0000_0000_0000 {
-        d = d * 2;
-        e -= 1;
+    let z = u64::leading_zeros(t) as u64 - 11;
+    Scaled {
+        d: t << z,
+        e: 1024 - z,
     }
-    Scaled { d, e }
 }
 
 // The pattern of the root of a number next to 1.0, by the number's pattern: half as far from that of 1.0, rounded down.
@@ -168,13 +181,21 @@ fn root_bits(b: u64) -> u64
     (e / 2 - 1) * 0x10_0000_0000_0000 + (digits(n) + 1) / 2
 }
 
+// The f64 nearest to the root of a finite number above 0. It is called at two places, and so stays apart from their tests.
+fn root_of(x: f64) -> f64
+    requires { ⌜ (lt zero64 x ≡ true) × (lt x (inf false) ≡ true) ⌝ }
+    ensures { λ r. ⌜ accepted (r ∷ []) ≡ rootOf x ⌝ }
+{
+    f64::from_bits(root_bits(f64::to_bits(x)))
+}
+
 // The f64 nearest to the root of x; zeros and infinity are their own roots.
 pub fn sqrt(x: f64) -> Root
     ensures { λ r. ⌜ rootSaid r ≡ rootOf x ⌝ }
 {
     if x > 0.0 {
         if x < 1.0 / 0.0 {
-            return Root::Of(f64::from_bits(root_bits(f64::to_bits(x))));
+            return Root::Of(root_of(x));
         }
         return Root::Of(x);
     }
@@ -188,10 +209,16 @@ pub fn sqrt(x: f64) -> Root
 pub fn root_or_nan(x: f64) -> f64
     ensures { λ r. ⌜ r ≡ orNan (rootOf x) ⌝ }
 {
-    match sqrt(x) {
-        Root::Of(y) => y,
-        Root::Refused(_) => 0.0 / 0.0,
+    if x > 0.0 {
+        if x < 1.0 / 0.0 {
+            return root_of(x);
+        }
+        return x;
     }
+    if x == 0.0 {
+        return x;
+    }
+    0.0 / 0.0
 }
 
 // Whether x is so far above y, by three f64 or more, that its root must be above that of y.

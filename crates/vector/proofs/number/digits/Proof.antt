@@ -6,17 +6,11 @@ use Rattle.vector.proofs.Roots.{Sizes, sizes, by-less, by-quotient}
 use Rattle.vector.proofs.number.digits.Statement.{statement}
 use Rattle.vector.proofs.number.digits.Tie as tie
 
-known : (c : tie.After-raise) → let n = c .before .before .before .args .n in let s = c .raise .result in Sizes n s ((n - s * s) * 2 ^ 27 / (2 * s)) ((n - s * s) * 2 ^ 27 % (2 * s))
-known c = let p = c .before .before .before .pre in sizes (c .before .before .before .args .n) (c .raise .result) (p .0) (p .1) (c .raise .ensures)
+known : (c : tie.After-whole-root) → let n = c .before .args .n in let s = c .whole-root .result in Sizes n s ((n - s * s) * 2 ^ 27 / (2 * s)) ((n - s * s) * 2 ^ 27 % (2 * s))
+known c = let p = c .before .pre in sizes (c .before .args .n) (c .whole-root .result) (p .0) (p .1) (c .whole-root .ensures)
 
-guess-requires : tie.Need-guess-requires
-guess-requires c κs = search needs
-
-lower-requires : tie.Need-lower-requires
-lower-requires c κs = search needs
-
-raise-requires : tie.Need-raise-requires
-raise-requires c κs = search needs
+whole-root-requires : tie.Need-whole-root-requires
+whole-root-requires c κs = search needs
 
 mul-rest : tie.Need-mul-rest
 mul-rest c = search needs
@@ -56,8 +50,8 @@ sub-result c = omega (arith, known (c .before))
 
 returns : tie.Need-returns
 returns c =
-    let p = c .before .before .before .before .pre in
-    by-less (c .before .before .before .before .args .n) (c .before .raise .result) (p .0) (p .1) (c .before .raise .ensures) (c .if1 .taken)
+    let p = c .before .before .pre in
+    by-less (c .before .before .args .n) (c .before .whole-root .result) (p .0) (p .1) (c .before .whole-root .ensures) (c .if1 .taken)
 
 mul-result-2 : tie.Need-mul-result-2
 mul-result-2 c = omega (arith, known (c .before))
@@ -67,16 +61,14 @@ add-result-2 c = omega (arith, known (c .before))
 
 returns-2 : tie.Need-returns-2
 returns-2 c =
-    let p = c .before .before .before .before .pre in
-    by-quotient (c .before .before .before .before .args .n) (c .before .raise .result) (p .0) (p .1) (c .before .raise .ensures) (c .if1 .left)
+    let p = c .before .before .pre in
+    by-quotient (c .before .before .args .n) (c .before .whole-root .result) (p .0) (p .1) (c .before .whole-root .ensures) (c .if1 .left)
 
 pub digits-spec : {M : Type 1} → statement M
 digits-spec =
     tie.close
     (tie.spec
-    guess-requires
-    lower-requires
-    raise-requires
+    whole-root-requires
     mul-rest
     sub-rest
     mul-rest-2

@@ -1,57 +1,35 @@
--- `split` meets its contract. A pattern with a leading digit has its digits. Another's are moved up until they have
--- one: digits and exponent say the same number at each turn, and the exponent falls.
-use Prim.Native.Nat.{_/_}
+-- `split` meets its contract. A pattern with a leading digit has its digits; another's are moved up by the zeros before them (`raised`).
+use Prim.Native.Nat.{_%_, _^_}
 use native.Mathlib.Omega.{arith}
-use Rattle.vector.specs.Units.{at}
-use Rattle.vector.proofs.Roots.{Rising, normal, rises, rises-more, risen, still}
+use lib.Count.{leading-le}
+use borrow.Author.Needs.{needs}
+use Rattle.vector.proofs.Roots.{normal, top, few-digits, raised}
 use Rattle.vector.proofs.number.split.Statement.{statement}
 use Rattle.vector.proofs.number.split.Tie as tie
 
-abbrev Inv-loop : tie.InvT-loop
-Inv-loop b f t d₀ e₀ d e = Rising (at b) d e
+add-t6 : tie.Need-add-t6
+add-t6 c = search needs
 
-abbrev μ-loop : tie.MeasureT-loop
-μ-loop b f t d₀ e₀ d e = e
+add-t7 : tie.Need-add-t7
+add-t7 c = search needs
 
-add-t7 : tie.Need-add-t7 Inv-loop μ-loop
-add-t7 c = omega arith
-
-add-t8 : tie.Need-add-t8 Inv-loop μ-loop
-add-t8 c = omega arith
-
-returns : tie.Need-returns Inv-loop μ-loop
+returns : tie.Need-returns
 returns c = normal (c .before .args .b) (c .before .pre .1) (c .if1 .taken)
 
-loop-holds : tie.Need-loop-holds Inv-loop μ-loop
-loop-holds c = rises (c .before .args .b) (c .before .pre .0) (c .if1 .left)
+cast-z : tie.Need-cast-z
+cast-z c = omega (arith, leading-le 64 (c .before .args .b % 2 ^ 52))
 
-mul-d : tie.Need-mul-d Inv-loop μ-loop
-mul-d c = omega arith
+sub-z : tie.Need-sub-z
+sub-z c = let a = c .before in let t = top (a .args .b) (a .pre .0) (c .if1 .left) in omega (arith, t .1, few-digits (a .args .b) (a .pre .0) (c .if1 .left))
 
-sub-e : tie.Need-sub-e Inv-loop μ-loop
-sub-e c = omega (arith, still (c .before .loop .inv) (c .loop-test .taken))
+shl-t9 : tie.Need-shl-t9
+shl-t9 c = let a = c .before in let t = top (a .args .b) (a .pre .0) (c .if1 .left) in omega (arith, t .1)
 
-loop-less : tie.Need-loop-less Inv-loop μ-loop
-loop-less c = omega (arith, still (c .before .loop .inv) (c .loop-test .taken))
+sub-t10 : tie.Need-sub-t10
+sub-t10 c = let a = c .before in let t = top (a .args .b) (a .pre .0) (c .if1 .left) in omega (arith, t .1)
 
-loop-again : tie.Need-loop-again Inv-loop μ-loop
-loop-again c = rises-more (c .before .loop .inv) (c .loop-test .taken)
-
-returns-2 : tie.Need-returns-2 Inv-loop μ-loop
-returns-2 c = risen (c .before .loop .inv) (c .loop-test .left)
+returns-2 : tie.Need-returns-2
+returns-2 c = let a = c .before in raised (a .args .b) (a .pre .0) (c .if1 .left)
 
 pub split-spec : {M : Type 1} → statement M
-split-spec =
-    tie.close
-    (tie.spec
-    Inv-loop
-    μ-loop
-    add-t7
-    add-t8
-    returns
-    loop-holds
-    mul-d
-    sub-e
-    loop-less
-    loop-again
-    returns-2)
+split-spec = tie.close (tie.spec add-t6 add-t7 returns cast-z sub-z shl-t9 sub-t10 returns-2)
