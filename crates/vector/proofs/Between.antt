@@ -14,13 +14,21 @@ use lib.Ieee.Scale.{round-same}
 use lib.Ieee.Positive.{num, den, positive, den-pos, own-value, value→cross, value-pos, positive-of-value, values-of-le, between, mul-at}
 use Rattle.vector.specs.InnerSteps.{heronOf}
 use Rattle.vector.proofs.Floors.{quot-high}
-use Rattle.vector.proofs.Shares.{digits-apart}
+use Rattle.vector.proofs.Shares.{quotient}
 
 -- x is finite and above zero, l of 2^-8 at least and u of 2^-8 at most
 pub record Between (l u : ℕ) (x : Float) : Type 0 where
   pub some : T (positive x)
   pub low : l * den x ≤ 2 ^ 8 * num x
   pub high : 2 ^ 8 * num x ≤ u * den x
+
+-- what lies between two numbers by the order of f64 lies between their fractions
+pub amid : (a c b : ℕ) (x z y : Float) → HasValue x false a b → HasValue y false c b → 0 < a → 0 < c → T (le x z) → T (le z y) → T (positive z) × (a * den z ≤ num z * b) × (num z * b ≤ c * den z)
+amid a c b x z y v w A C f g =
+    let p = positive-of-value x a b v A in
+    let q = positive-of-value y c b w C in
+    let o = between x z y p q f g in
+    (o, values-of-le x z a b (num z) (den z) p o v (own-value z o) f, values-of-le z y (num z) (den z) c b o q (own-value z o) w g)
 
 -- ---- rounding keeps a fraction between two such numbers, since both are f64
 exact : (l : ℕ) → l < 2 ^ 53 → HasValue (round binary64 false l (2 ^ 8)) false l (2 ^ 8)
@@ -34,16 +42,9 @@ rounded a b l u B L U h k =
     let m : l ≤ u = le-of-mul-le-mul-right (le-trans h k) B in
     let f = round-mono binary64 l (2 ^ 8) a b (pow-pos 8) B (le-trans h (le-of-eq (mul-comm (2 ^ 8) a))) in
     let g = round-mono binary64 a b u (2 ^ 8) B (pow-pos 8) (le-trans (le-of-eq (mul-comm a (2 ^ 8))) k) in
-    held (round binary64 false l (2 ^ 8)) (round binary64 false a b) (round binary64 false u (2 ^ 8)) (exact l (omega arith)) (exact u U) (omega arith) f g
-  where
-    held : (x z y : Float) → HasValue x false l (2 ^ 8) → HasValue y false u (2 ^ 8) → 0 < u → T (le x z) → T (le z y) → Between l u z
-    held x z y v w P f g =
-        let p = positive-of-value x l (2 ^ 8) v L in
-        let q = positive-of-value y u (2 ^ 8) w P in
-        let o = between x z y p q f g in
-        let c = values-of-le x z l (2 ^ 8) (num z) (den z) p o v (own-value z o) f in
-        let d = values-of-le z y (num z) (den z) u (2 ^ 8) o q (own-value z o) w g in
-        record { some = o; low = le-trans c (le-of-eq (mul-comm (num z) (2 ^ 8))); high = le-trans (le-of-eq (mul-comm (2 ^ 8) (num z))) d }
+    let z = round binary64 false a b in
+    let o = amid l u (2 ^ 8) (round binary64 false l (2 ^ 8)) z (round binary64 false u (2 ^ 8)) (exact l (omega arith)) (exact u U) L (omega arith) f g in
+    record { some = o .0; low = le-trans (o .1) (le-of-eq (mul-comm (num z) (2 ^ 8))); high = le-trans (le-of-eq (mul-comm (2 ^ 8) (num z))) (o .2) }
 
 -- the whole number of 2^-8 that a number has
 pub own : {l u : ℕ} {x : Float} → Between l u x → (w : ℕ) × (l ≤ w) × (w ≤ u) × Between w (w + 1) x
@@ -63,7 +64,7 @@ div-is (fin false m e) nan p q = absurd q
 div-is (fin false m e) (inf t) p q = absurd q
 div-is (fin false m e) (fin true n d) p q = absurd q
 div-is (fin false m e) (fin false zero d) p q = absurd q
-div-is (fin false m e) (fin false (suc n) d) p q = rw (digits-apart n)
+div-is (fin false m e) (fin false (suc n) d) p q = quotient m n e d
 
 pub add-is : (x y : Float) → T (positive x) → T (positive y) → add binary64 x y ≡ round binary64 false (num x * den y + num y * den x) (den x * den y)
 unfolding add sum

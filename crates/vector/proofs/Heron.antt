@@ -80,7 +80,7 @@ module _ (n h : ℕ) (least : n ≤ 2 * h) (most : 2 * h ≤ n + 1) where
         over = second-over n ((h - 2 ^ 52) / 2 ^ 28) w (omega arith) (omega arith) (omega arith);
       }
 
-  -- ---- a step is not below the root by more than 1
+  -- ---- a step, rounded down, is at most 1 below the whole part s of the root, counted in 2^-8
   pub hardly-below : (w s : ℕ) → s * s ≤ 2 ^ 16 * n → s ≤ 2 ^ 16 * h / (w + 1) + w / 2 + 1
   hardly-below w s k = ⊎-elim (λ g. absurd (below g)) (λ g. g) (lt-or-ge (2 ^ 16 * h / (w + 1) + w / 2 + 1) s)
     where

@@ -3,7 +3,7 @@ use mathlib.Core.Path.{_≡_, refl, sym, ap, _∙_, subst}
 use mathlib.Core.Logic.{⊎-elim}
 use mathlib.Core.Bool.{true, false, not}
 use Prim.Native.Nat.{ℕ, zero, suc, _+_, _-_, _*_, _/_, _%_, _^_, _≤_, _<_}
-use native.Mathlib.Nat.{le-trans, le-of-eq, lt-of-lt-of-le, lt-of-le-of-lt, lt-of-not-le, lt-irrefl, mul-comm, mul-assoc, mul-right-comm, mul-pos, mul-le-mul-right, mul-lt-mul-of-pos-right, le-div-iff-mul-le, div-lt-iff-lt-mul}
+use native.Mathlib.Nat.{le-trans, le-of-eq, lt-of-lt-of-le, lt-of-le-of-lt, lt-of-not-le, lt-irrefl, mul-comm, mul-assoc, mul-right-comm, mul-pos, mul-le-mul-right, mul-lt-mul-of-pos-right, le-div-iff-mul-le, div-lt-iff-lt-mul, div-le-of-le-mul}
 use native.Mathlib.Omega.{arith}
 use lib.Dec.{T, lit<}
 use lib.Pow.{pow-pos, pow-add, pow-mono, shl-lt}
@@ -15,13 +15,13 @@ use lib.Ieee.Fits.{add-fits, down-pos}
 use lib.Ieee.Nearest.{closest, closest-same}
 use lib.Ieee.Order.{drop, round-mono}
 use lib.Ieee.Scale.{grid, round-val}
-use lib.Ieee.Positive.{num, den, positive, den-pos, own-value, positive-of-value, values-of-le, between}
+use lib.Ieee.Positive.{num, den, positive, den-pos}
 use Rattle.vector.specs.Root.{unitsOf}
 use Rattle.vector.specs.Units.{at}
 use Rattle.vector.proofs.Roots.{lt-or-ge, at-high}
 use Rattle.vector.proofs.Patterns.{units-bits}
 use Rattle.vector.proofs.RootSearch.{at-step, at-mono}
-use Rattle.vector.proofs.Between.{Between, add-is}
+use Rattle.vector.proofs.Between.{Between, amid, add-is}
 
 -- ---- a quarter more or less than a whole number of 53 digits is rounded to it
 quarter-less : (j : ℕ) → closest (4 * j + 3) 4 ≡ suc j
@@ -36,8 +36,8 @@ quarter-more k =
     let r : (4 * k + 1) % 4 ≡ 1 = omega arith in
     rw (q, r) refl
 
-sizes : (m : ℕ) → m ≤ 1127 → 1126 < m → m - 53 ≡ 1074
-sizes m l o = omega arith
+dropped-digits : (m : ℕ) → m ≤ 1127 → 1126 < m → m - 53 ≡ 1074
+dropped-digits m l o = omega arith
 
 room : 54 + 1074 ≤ 2098
 room = omega arith
@@ -51,7 +51,7 @@ module _ (k d : ℕ) (least : 2 ^ 52 * 4 ≤ d) (most : d < 2 ^ 53 * 4) (next : 
       let g : 2 ^ 1126 ≤ d * 2 ^ 1074 / 4 = le-div-iff-mul-le {x = 2 ^ 1126} {y = d * 2 ^ 1074} (lit< tt) .1
       (le-trans (le-of-eq (ap (λ (x : ℕ). x * 4) (pow-add 2 52 1074) ∙ mul-right-comm (2 ^ 52) (2 ^ 1074) 4)) (mul-le-mul-right (2 ^ 1074) least)) in
       let o : 1126 < m = lt-of-not-le (λ (f : m ≤ 1126). lt-irrefl (2 ^ 1126) (lt-of-le-of-lt g (lt-of-lt-of-le (size-lt (d * 2 ^ 1074 / 4)) (pow-mono f)))) in
-      sizes m l o
+      dropped-digits m l o
 
   on-grid : grid binary64 d 4 ≡ k * 2 ^ 1074
   on-grid =
@@ -71,9 +71,6 @@ after a b h = omega arith
 after-next : (a s b : ℕ) → a + s + 1 < b → a + (s + 1) + 1 ≤ b
 after-next a s b h = omega arith
 
-not-over : (a b c : ℕ) → 0 < c → a ≤ b * c → a / c ≤ b
-not-over a b c C g = let l : a / c < b + 1 = div-lt-iff-lt-mul {x = a} {y = b + 1} C .1 (omega arith) in omega arith
-
 whole-pos : (t : ℕ) → 0 < (2 ^ 52 + t) * 2 ^ 1074
 whole-pos t = mul-pos (some t) (pow-pos 1074)
   where
@@ -90,11 +87,11 @@ opened : (m : ℕ) (e : ℤ) → suc m * up e * 2 ^ 1074 / down e ≡ unitsOf (f
 unfolding unitsOf
 opened m e = refl
 
-no-nan : (x : Float) → T (positive x) → T (not (isNan x))
+positive-no-nan : (x : Float) → T (positive x) → T (not (isNan x))
 unfolding isNan
-no-nan nan p = absurd p
-no-nan (inf t) p = absurd p
-no-nan (fin t m e) p = tt
+positive-no-nan nan p = absurd p
+positive-no-nan (inf t) p = absurd p
+positive-no-nan (fin t m e) p = tt
 
 module _ (s : ℕ) (some : 0 < s) (small : s < 2 ^ 51) where
   abbrev pattern : ℕ
@@ -128,16 +125,14 @@ module _ (s : ℕ) (some : 0 < s) (small : s < 2 ^ 51) where
       let u = opened m e ∙ units-bits m e f in
       by-units (toBits binary64 (fin false (suc m) e))
       (le-trans (le-div-iff-mul-le {k = down e} {x = (2 ^ 52 + s) * 2 ^ 1074} {y = suc m * up e * 2 ^ 1074} (down-pos e) .1 h) (le-of-eq u))
-      (le-trans (le-of-eq (sym u)) (not-over (suc m * up e * 2 ^ 1074) ((2 ^ 52 + (s + 1)) * 2 ^ 1074) (down e) (down-pos e) g))
+      (le-trans (le-of-eq (sym u)) (div-le-of-le-mul (down e) (le-trans g (le-of-eq (mul-comm ((2 ^ 52 + (s + 1)) * 2 ^ 1074) (down e))))))
 
   held : (x y c : Float) → T (fits binary64 c) → HasValue x false ((2 ^ 52 + s) * 2 ^ 1074) (2 ^ 1074) → HasValue y false ((2 ^ 52 + (s + 1)) * 2 ^ 1074) (2 ^ 1074) → T (le x c) → T (le c y)
       → T (not (isNan c)) × (pattern ≤ toBits binary64 c) × (toBits binary64 c ≤ pattern + 1)
   held x y c fit v w f g =
-      let p = positive-of-value x ((2 ^ 52 + s) * 2 ^ 1074) (2 ^ 1074) v (whole-pos s) in
-      let q = positive-of-value y ((2 ^ 52 + (s + 1)) * 2 ^ 1074) (2 ^ 1074) w (whole-pos (s + 1)) in
-      let o = between x c y p q f g in
-      let b = by-value c fit o (values-of-le x c ((2 ^ 52 + s) * 2 ^ 1074) (2 ^ 1074) (num c) (den c) p o v (own-value c o) f) (values-of-le c y (num c) (den c) ((2 ^ 52 + (s + 1)) * 2 ^ 1074) (2 ^ 1074) o q (own-value c o) w g) in
-      (no-nan c o, b .0, b .1)
+      let o = amid ((2 ^ 52 + s) * 2 ^ 1074) ((2 ^ 52 + (s + 1)) * 2 ^ 1074) (2 ^ 1074) x c y v w (whole-pos s) (whole-pos (s + 1)) f g in
+      let b = by-value c fit (o .0) (o .1) (o .2) in
+      (positive-no-nan c (o .0), b .0, b .1)
 
   -- a quarter below the first, and a quarter above the next
   abbrev below : ℕ

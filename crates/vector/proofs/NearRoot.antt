@@ -13,7 +13,7 @@ use lib.Ieee.Bits.{is-true, is-false}
 use lib.Ieee.Exact.{HasValue}
 use lib.Ieee.Back.{round-whole}
 use Rattle.vector.specs.InnerSteps.{Digits, Close, roughOf, heronOf}
-use Rattle.vector.proofs.Roots.{lt-or-ge, root-lt}
+use Rattle.vector.proofs.Roots.{lt-or-ge, sizes}
 use Rattle.vector.proofs.RootNearest.{digits-of}
 use Rattle.vector.proofs.Between.{Between, own, stepped, lined}
 use Rattle.vector.proofs.Heron.{Rough, Near, first-line, second-line, hardly-below, nearer, nearest}
@@ -68,10 +68,10 @@ module _ (n : ℕ) (least : 2 ^ 52 ≤ n) (most : n < 2 ^ 54) where
   root = digits-of n (omega arith)
 
   root-least : 2 ^ 26 ≤ root .0
-  root-least = let h = root-lt (2 ^ 26) (root .0 + 1) (omega (arith, root .2 .next-above)) in omega arith
+  root-least = sizes n (root .0) least most (root .2) .0
 
   root-most : root .0 < 2 ^ 27
-  root-most = root-lt (root .0) (2 ^ 27) (omega (arith, root .2 .not-above))
+  root-most = sizes n (root .0) least most (root .2) .1
 
   -- what 2^52 is added to
   abbrev sum : Float → Float
@@ -94,8 +94,8 @@ module _ (n : ℕ) (least : 2 ^ 52 ≤ n) (most : n < 2 ^ 54) where
     is-twice : heronOf x (heronOf x (roughOf n x)) ≡ c
     is-twice = sym (second-step ∙ ap (heronOf x) (first-step ∙ ap (heronOf x) rough))
 
-    pub no-nan : T (not (isNan (sum c)))
-    no-nan = subst (λ (z : Float). T (not (isNan (sum z)))) is-twice (two-steps .0)
+    pub sum-no-nan : T (not (isNan (sum c)))
+    sum-no-nan = subst (λ (z : Float). T (not (isNan (sum z)))) is-twice (two-steps .0)
 
     pub close : Close n (toBits binary64 (sum c) % 2 ^ 28)
     close = subst (λ (z : Float). Close n (toBits binary64 (sum z) % 2 ^ 28)) is-twice (either (toBits binary64 (sum (heronOf x (heronOf x (roughOf n x))))) (root .0) (root .2) root-least root-most (two-steps .1) (two-steps .2))

@@ -107,9 +107,6 @@ unfolding at
 at-high b x h = rw h
 
 -- powers by their exponents, so that no large power is written out
-shift : (a x i y j : ℕ) → x + i ≡ y + j → a * 2 ^ x * 2 ^ i ≡ a * 2 ^ y * 2 ^ j
-shift a x i y j h = mul-assoc a (2 ^ x) (2 ^ i) ∙ ap (λ (z : ℕ). a * z) (sym (pow-add 2 x i) ∙ ap (λ (z : ℕ). 2 ^ z) h ∙ pow-add 2 y j) ∙ sym (mul-assoc a (2 ^ y) (2 ^ j))
-
 pub shift-to : (a x i y : ℕ) → x + i ≡ y → a * 2 ^ x * 2 ^ i ≡ a * 2 ^ y
 shift-to a x i y h = mul-assoc a (2 ^ x) (2 ^ i) ∙ ap (λ (z : ℕ). a * z) (sym (pow-add 2 x i) ∙ ap (λ (z : ℕ). 2 ^ z) h)
 

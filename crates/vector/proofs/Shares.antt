@@ -72,7 +72,7 @@ digits-apart n = go (eqb (suc n) 0) (eqb→eq (suc n) 0)
     go true f = absurd (omega (arith, f tt))
     go false f = refl
 
-quotient : (m n : ℕ) (e d : ℤ) → div binary64 (fin false (suc m) e) (fin false (suc n) d) ≡ round binary64 false (suc m * up e * down d) (suc n * up d * down e)
+pub quotient : (m n : ℕ) (e d : ℤ) → div binary64 (fin false m e) (fin false (suc n) d) ≡ round binary64 false (m * up e * down d) (suc n * up d * down e)
 unfolding div
 quotient m n e d = rw (digits-apart n)
 
@@ -94,7 +94,7 @@ within (inf false) (inf false) j h k = (refl, refl)
 within (inf false) (fin false (suc n) d) j h k = absurd k
 within (fin false (suc m) e) (inf false) j h k = (refl, refl)
 within (fin false (suc m) e) (fin false (suc n) d) j h k =
-    rw (quotient m n e d)
+    rw (quotient (suc m) n e d)
     (share (suc m * up e * down d) (suc n * up d * down e) (mul-pos (mul-pos (zero-lt-suc n) (up-pos d)) (down-pos e)) (nltb→le (suc n * up d * down e) (suc m * up e * down d) k))
 
 -- what is above 0 is not level with it

@@ -127,13 +127,16 @@ fn on_segment(random: &mut Random, list: &mut [f64]) {
 }
 
 /// A number whose root lies as near as can be to the middle of two neighbouring f64: the two on either side of the
-/// square of such a middle.
+/// square of such a middle, of any exponent; one pair in eight is subnormal.
 pub fn near_middle(random: &mut Random) -> [f64; 2] {
     let m = (1 << 52 | random.bits() >> 12) as u128;
     let square = m * m + m;
-    let shift = 128 - square.leading_zeros() - 53;
-    let below = (square >> shift) as u64;
-    let even = if shift.is_multiple_of(2) { 1.0 } else { 2.0 };
-    let scale = f64::from_bits(((random.below(900) as u64) * 2 + 51) << 52);
-    [below, below + 1].map(|x| x as f64 * even * scale)
+    let whole = 128 - square.leading_zeros() as u64 - 53; // so many digits cut leave 53
+    let (shift, exponent) = if random.once_in(8) {
+        (54 + 2 * random.below(26) as u64, 0)
+    } else {
+        (whole, 2 * random.below(1023) as u64 + whole % 2)
+    };
+    let pattern = (exponent << 52) + (square >> shift) as u64;
+    [pattern, pattern + 1].map(f64::from_bits)
 }

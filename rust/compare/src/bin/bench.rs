@@ -20,14 +20,22 @@ fn main() {
     println!("| call | port, ms | original, ms | port / original | growth |");
     println!("|---|---|---|---|---|");
     let word = std::env::args().nth(1).unwrap_or_default();
-    for call in calls::CALLS.iter().filter(|call| call.name.starts_with(&word)) {
-        println!("{}", compare::bench::time(call, RUNS).line());
+    let timed = calls::CALLS.iter().filter(|call| call.name.starts_with(&word));
+    let rows = Vec::from_iter(timed.map(|call| {
+        let row = compare::bench::time(call, RUNS);
+        println!("{}", row.line());
+        row
+    }));
+    for row in rows.iter().filter(|row| row.call == "sqrt") {
+        let [ours, theirs] = [row.port[1], row.original[1]];
+        let each = ours * 1e9 / (3 * compare::bench::SIZES[1].2) as f64;
+        println!("\nA root takes {each:.1} ns, {:.1} times as long as the machine's own.", ours / theirs);
     }
     println!("\n## Inputs made to hurt\n");
     println!(
-        "As many edges as the torus has for a splice, as many vertices to simplify (best of 5 runs), sixteen points a face to\n\
-         cut (best of 5), as many corners for a weld (long ways at many places: best of 3), as many faces for a drawing;\n\
-         growth as above.\n"
+        "As many roots as the torus has corners, as many edges for a splice, as many vertices to simplify (best of 5 runs),\n\
+         sixteen points a face to cut (best of 5), as many corners for a weld (long ways at many places: best of 3), as many\n\
+         faces for a drawing; growth as above.\n"
     );
     println!("| call | port, ms | original, ms | port / original | growth |");
     println!("|---|---|---|---|---|");
@@ -99,7 +107,11 @@ mod calls {
     use std::hint::black_box;
 
     pub const CALLS: &[Call] = &[
-        Call { name: "sqrt", port: sqrt_port, original: sqrt_original },
+        Call {
+            name: "sqrt",
+            port: |mesh, runs| sqrt_of(&squares(mesh), runs),
+            original: |mesh, runs| machine_sqrt_of(&squares(mesh), runs),
+        },
         Call { name: "normalize", port: normalize_port, original: normalize_original },
         Call { name: "segment_distance", port: segment_port, original: segment_original },
         Call { name: "mul_position_w", port: position_port, original: position_original },
@@ -134,6 +146,12 @@ mod calls {
 
     /// Edges and corners that a search by value or by cell would be slow on.
     pub const WORST: &[Call] = &[
+        Call { name: "sqrt, each of a sum with the root before", port: sqrt_chain, original: machine_sqrt_chain },
+        Call {
+            name: "sqrt of subnormals",
+            port: |mesh, runs| sqrt_of(&subnormals(mesh), runs),
+            original: |mesh, runs| machine_sqrt_of(&subnormals(mesh), runs),
+        },
         Call {
             name: "splice, one vertex in every edge",
             port: |mesh, runs| splice_of(&star(mesh), runs),
@@ -426,8 +444,14 @@ mod calls {
         vectors(mesh).iter().map(|v| v.length_squared()).collect()
     }
 
-    fn sqrt_port(mesh: &Mesh, runs: usize) -> f64 {
-        let (input, mut out) = (squares(mesh), vec![0.0; mesh.faces.len() * 3]);
+    /// Subnormal numbers, as many: the digits of the squares, from all 52 down to one.
+    fn subnormals(mesh: &Mesh) -> Vec<f64> {
+        let digits = |(i, x): (usize, &f64)| (x.to_bits() & 0x000F_FFFF_FFFF_FFFF | 1 << 51) >> (i % 52);
+        squares(mesh).iter().enumerate().map(digits).map(f64::from_bits).collect()
+    }
+
+    fn sqrt_of(input: &[f64], runs: usize) -> f64 {
+        let mut out = vec![0.0; input.len()];
         best(runs, || {
             input.iter().zip(&mut out).for_each(|(&x, y)| {
                 lent::sqrt(black_box(x), y);
@@ -436,11 +460,30 @@ mod calls {
         })
     }
 
-    fn sqrt_original(mesh: &Mesh, runs: usize) -> f64 {
-        let (input, mut out) = (squares(mesh), vec![0.0; mesh.faces.len() * 3]);
+    fn machine_sqrt_of(input: &[f64], runs: usize) -> f64 {
+        let mut out = vec![0.0; input.len()];
         best(runs, || {
             input.iter().zip(&mut out).for_each(|(&x, y)| *y = black_box(x).sqrt());
             black_box(&mut out);
+        })
+    }
+
+    /// Each root is of a sum with the root before, so that it cannot begin sooner.
+    fn sqrt_chain(mesh: &Mesh, runs: usize) -> f64 {
+        let (input, mut root) = (squares(mesh), 0.0);
+        best(runs, || {
+            input.iter().for_each(|&x| {
+                lent::sqrt(x + root, &mut root);
+            });
+            black_box(root);
+        })
+    }
+
+    fn machine_sqrt_chain(mesh: &Mesh, runs: usize) -> f64 {
+        let (input, mut root) = (squares(mesh), 0.0);
+        best(runs, || {
+            input.iter().for_each(|&x| root = (x + root).sqrt());
+            black_box(root);
         })
     }
 

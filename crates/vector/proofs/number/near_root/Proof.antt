@@ -1,10 +1,10 @@
--- `near_root` meets its contract: what two steps give, and 2^52, is a number (`no-nan`) with the wanted last digits (`close`).
+-- `near_root` meets its contract: what two steps give, and 2^52, is a number (`sum-no-nan`) with the wanted last digits (`close`).
 use native.Mathlib.Omega.{arith}
 use borrow.Author.Needs.{needs}
 use lib.Dec.{le→leb}
 use lib.Ieee.{inFloat}
 use Prim.Native.Nat.{_+_, _/_, _^_}
-use Rattle.vector.proofs.NearRoot.{no-nan, close}
+use Rattle.vector.proofs.NearRoot.{sum-no-nan, close}
 use Rattle.vector.proofs.number.near_root.Statement.{statement}
 use Rattle.vector.proofs.number.near_root.Tie as tie
 
@@ -27,7 +27,7 @@ heron-requires-2 c κs = search needs
 float-to-bits-result : tie.Need-float-to-bits-result
 float-to-bits-result c =
     let a = c .before .before .before .before in
-    no-nan (a .args .n) (a .pre .0) (a .pre .1) (c .before .before .rough .result) (c .before .heron .result) (c .heron2 .result) (c .before .before .rough .ensures) (c .before .heron .ensures) (c .heron2 .ensures)
+    sum-no-nan (a .args .n) (a .pre .0) (a .pre .1) (c .before .before .rough .result) (c .before .heron .result) (c .heron2 .result) (c .before .before .rough .ensures) (c .before .heron .ensures) (c .heron2 .ensures)
 
 returns : tie.Need-returns
 returns c =
