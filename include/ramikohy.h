@@ -8,7 +8,7 @@
  * pointer or uses anything but its parameters, so each may be called from several threads at once.
  *
  * Stack, at most, as the tests bound it on x86-64 and on Arm: simplify 400,000 bytes, chop_adaptive 65,536, draw 6,144,
- * splice 4,096, every other function 2,048. */
+ * splice and contour 4,096, every other function 2,048. */
 #ifndef RAMIKOHY_H
 #define RAMIKOHY_H
 
@@ -123,6 +123,19 @@ uint32_t ramikohy_write_stl(const double *vertices, size_t vertices_len, const u
  * bytes. */
 uint32_t ramikohy_section(const double *vertices, size_t vertices_len, const uint32_t *indices, size_t indices_len,
                           const double plane_point[3], const double plane_normal[3], double tolerance,
+                          double *out_points, size_t out_points_len, uint32_t *out_starts, size_t out_starts_len,
+                          size_t *point_count, size_t *start_count);
+
+/* The outline in which a plane cuts a mesh. The height of a vertex is the dot of the normal, of whatever length, with the
+ * vertex minus the plane's point: not below the tolerance it is above, not above minus the tolerance it is below, and
+ * else on the plane. A face gives a segment where it has corners above and below, or two on the plane and the third
+ * above: between the corners on the plane and where its sides cross it. Segments are joined end to end where coordinates
+ * are equal. No -0 is written. Where every edge has an even number of faces, and no face has a vertex twice, every
+ * stroke is closed. Scratch: 16 words and 8 numbers a face. Output: 2 points and 1 start a face, however few of them are
+ * cut. Stack: 4,096 bytes. */
+uint32_t ramikohy_contour(const double *vertices, size_t vertices_len, const uint32_t *indices, size_t indices_len,
+                          const double plane_point[3], const double plane_normal[3], double tolerance,
+                          uint32_t *scratch, size_t scratch_len, double *numbers, size_t numbers_len,
                           double *out_points, size_t out_points_len, uint32_t *out_starts, size_t out_starts_len,
                           size_t *point_count, size_t *start_count);
 

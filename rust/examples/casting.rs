@@ -3,7 +3,7 @@
 //! program that lists a sheet, and the folder that the sheets and the file are left in.
 
 use ramikohy::{Mesh, Mode, Plane, Refusal, Sheet, Strokes, Vector};
-use ramikohy::{draw, read_sheet, read_stl, section, weld, write_sheet, write_stl};
+use ramikohy::{contour, draw, read_sheet, read_stl, section, weld, write_sheet, write_stl};
 use std::collections::BTreeMap;
 use std::io::Write;
 use std::process::{Command, Stdio};
@@ -197,12 +197,26 @@ fn listing(sheet: &[u8]) -> Outcome<String> {
     Ok(said)
 }
 
-/// A cut across the middle of the pipe.
+/// A cut across the middle of the pipe, where the gap is, and one along its axis, through corners: the segments face by
+/// face, with those that are a dot, and the outline.
 fn cut(mesh: &Mesh) -> Outcome<()> {
-    let plane = Plane { point: [0.0, 0.0, 150.0], normal: [0.0, 0.0, 1.0] };
-    let (cut, ms) = timed(|| section(mesh, &plane, TOLERANCE));
-    let cut = cut?;
-    let length: f64 = cut.iter().map(|s| Vector::from(s[0]).distance(Vector::from(s[1]))).sum();
-    println!("\nsection across the middle: {} strokes, {length:.3} mm of line, {ms:.2} ms", cut.starts().len());
+    let across = Plane { point: [0.0, 0.0, 150.0], normal: [0.0, 0.0, 1.0] };
+    let along = Plane { point: [0.0; 3], normal: [0.0, 1.0, 0.0] };
+    println!("\ncut                        strokes   open  dots  mm of line    ms");
+    for (name, plane, tolerance) in [("across the middle", across, TOLERANCE), ("along the axis", along, 1e-6)] {
+        println!("section {name:<18}{}", told(timed(|| section(mesh, &plane, tolerance)))?);
+        println!("contour {name:<18}{}", told(timed(|| contour(mesh, &plane, tolerance)))?);
+    }
     Ok(())
+}
+
+/// The strokes of a cut, how many of them are open, how many segments are a dot (under a thousandth of a mm), its
+/// length and its milliseconds.
+fn told((cut, ms): (Result<Strokes<[f64; 3]>, Refusal>, f64)) -> Outcome<String> {
+    let cut = cut?;
+    let open = cut.iter().filter(|stroke| stroke.first() != stroke.last()).count();
+    let spans = cut.iter().flat_map(|stroke| stroke.windows(2));
+    let lengths: Vec<f64> = spans.map(|w| Vector::from(w[0]).distance(Vector::from(w[1]))).collect();
+    let (length, dots) = (lengths.iter().sum::<f64>(), lengths.iter().filter(|mm| **mm < 0.001).count());
+    Ok(format!("  {:>6}  {open:>5}  {dots:>4}  {length:>10.3}  {ms:>4.2}", cut.starts().len()))
 }

@@ -102,6 +102,25 @@ unsafe extern "C" {
         point_count: *mut usize,
         start_count: *mut usize,
     ) -> u32;
+    pub fn ramikohy_contour(
+        vertices: *const f64,
+        vertices_len: usize,
+        indices: *const u32,
+        indices_len: usize,
+        plane_point: *const [f64; 3],
+        plane_normal: *const [f64; 3],
+        tolerance: f64,
+        scratch: *mut u32,
+        scratch_len: usize,
+        numbers: *mut f64,
+        numbers_len: usize,
+        out_points: *mut f64,
+        out_points_len: usize,
+        out_starts: *mut u32,
+        out_starts_len: usize,
+        point_count: *mut usize,
+        start_count: *mut usize,
+    ) -> u32;
     pub fn ramikohy_draw(
         vertices: *const f64,
         vertices_len: usize,

@@ -3,6 +3,7 @@
 
 pub mod chop;
 pub mod chop_adaptive;
+pub mod contour;
 pub mod draw;
 pub mod read_sheet;
 pub mod read_stl;

@@ -16,6 +16,7 @@ use crate::c;
 
 pub use crate::calls::chop::lent as chop;
 pub use crate::calls::chop_adaptive::lent as chop_adaptive;
+pub use crate::calls::contour::lent as contour;
 pub use crate::calls::draw::lent as draw;
 pub use crate::calls::read_sheet::lent as read_sheet;
 pub use crate::calls::read_stl::lent as read_stl;

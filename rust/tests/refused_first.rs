@@ -56,6 +56,7 @@ fn meshes() {
     for (mesh, why) in [(mesh(65_537, [0, 1, 2]), Refusal::Count), (mesh(9, [0, 1, 3]), Refusal::Vertex)] {
         refused(|| ramikohy::draw(&mesh, &[], Mode::Polygonal, ABOVE, 1e-9), why);
         refused(|| ramikohy::section(&mesh, &plane, 1e-9), why);
+        refused(|| ramikohy::contour(&mesh, &plane, 1e-9), why);
         refused(|| ramikohy::write_stl(&mesh), why);
     }
     let corners = vec![[[0.0; 3]; 3]; 65_537];

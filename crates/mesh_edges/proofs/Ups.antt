@@ -1,14 +1,13 @@
 -- Lists of rising numbers, and the sides in the order of their pairs.
-use mathlib.Core.Path.{_≡_, refl, sym, ap, _∙_}
-use mathlib.Core.Logic.{_⊎_, inl, inr}
+use mathlib.Core.Path.{_≡_, refl, ap, _∙_}
+use mathlib.Core.Logic.{inl, inr}
 use mathlib.Core.List.{List, [], _∷_, _++_, map}
-use Prim.Native.Nat.{ℕ, zero, suc, _+_, _-_, _<_, _≤_}
+use Prim.Native.Nat.{ℕ, zero, suc, _+_, _<_, _≤_}
 use native.Mathlib.Omega.{arith}
 use native.Mathlib.Numerals.{add-one}
 use lib.ListN.{length, getD, length-map}
-use Rattle.order.specs.Order.{insert, order}
-use Rattle.order.proofs.Tests.{le-or}
-use Rattle.order.proofs.Sorted.{In, in-at, Rising, Sorted, insert-front, insert-later, single, order-length, in-order, order-sorted}
+use Rattle.order.specs.Order.{order}
+use Rattle.order.proofs.Sorted.{In, in-at, Rising, Sorted, order-length, in-order, order-sorted, order-agree}
 use Rattle.mesh_edges.specs.Edges.{upFrom, pairOf, sidesOf}
 
 pub up-length : (a n : ℕ) → length (upFrom a n) ≡ n
@@ -53,21 +52,6 @@ map-get f a (suc n) (suc k) h = let e : a + suc k ≡ a + 1 + k = omega arith in
 
 pub map-at : (f : ℕ → ℕ) (n k : ℕ) → k < n → getD (map f (upFrom 0 n)) k 0 ≡ f k
 map-at f n k h = let e : 0 + k ≡ k = omega arith in map-get f 0 n k h ∙ ap f e
-
--- keys that agree on the numbers of a list
-module _ (k l : ℕ → ℕ) where
-  insert-agree : (x : ℕ) (s : List ℕ) → k x ≡ l x → ((y : ℕ) → In y s → k y ≡ l y) → insert k x s ≡ insert l x s
-  insert-agree x [] e h = single k x ∙ sym (single l x)
-  insert-agree x (y ∷ s) e h = go (le-or (k x) (k y)) (insert-agree x s e (λ z i. h z (inr i)))
-    where
-      go : (k x ≤ k y) ⊎ (k y < k x) → insert k x s ≡ insert l x s → insert k x (y ∷ s) ≡ insert l x (y ∷ s)
-      go (inl b) r = insert-front k x y s b ∙ sym (insert-front l x y s (omega (arith, h y (inl refl))))
-      go (inr b) r = insert-later k x y s b ∙ ap (λ (z : List ℕ). y ∷ z) r ∙ sym (insert-later l x y s (omega (arith, h y (inl refl))))
-
-  pub order-agree : (s : List ℕ) → ((y : ℕ) → In y s → k y ≡ l y) → order k s ≡ order l s
-  unfolding order
-  order-agree [] h = refl
-  order-agree (x ∷ s) h = insert-agree x (order k s) (h x (inl refl)) (λ y i. h y (inr (in-order k s y i))) ∙ ap (insert l x) (order-agree s (λ y i. h y (inr i)))
 
 pub up-agree : (k l : ℕ → ℕ) (n : ℕ) → ((y : ℕ) → y < n → k y ≡ l y) → order k (upFrom 0 n) ≡ order l (upFrom 0 n)
 up-agree k l n h = order-agree k l (upFrom 0 n) (λ y i. h y (omega (arith, up-bound 0 n y i)))

@@ -210,7 +210,7 @@ fn write_faces(
 }
 
 // Whether coordinates, plane and tolerance are within their ranges.
-fn numbers_good(vertices: &[f64], plane: Plane, tolerance: f64) -> bool
+pub fn numbers_good(vertices: &[f64], plane: Plane, tolerance: f64) -> bool
     ensures { λ r. ⌜ r ≡ numbersGood (now (vertices .entry)) plane tolerance ⌝ }
 {
     if !coordinates_good(vertices) {
@@ -226,7 +226,7 @@ fn numbers_good(vertices: &[f64], plane: Plane, tolerance: f64) -> bool
 }
 
 // Whether there is room for two points and a start a face.
-fn room_for(faces: usize, room: usize, start_room: usize) -> bool
+pub fn room_for(faces: usize, room: usize, start_room: usize) -> bool
     ensures { λ r. ⌜ r ≡ roomFor faces room «start_room» ⌝ }
 {
     if room / 6 < faces {

@@ -1,38 +1,27 @@
 -- A face with two corners that compare equal is flat: one of its two sides is all zeros, or the two are alike.
-use mathlib.Core.Path.{_≡_, refl, sym, subst}
+use mathlib.Core.Path.{_≡_, refl}
 use mathlib.Core.Bool.{Bool, true, false, _&&_, _||_}
 use mathlib.Core.Logic.{_⊎_, inl, inr, ⊎-elim}
-use mathlib.Core.List.{List, [], _∷_}
-use Prim.Native.Nat.{ℕ, zero, suc, _+_, _*_, _/_, _<_}
+use mathlib.Core.List.{List}
+use Prim.Native.Nat.{ℕ, _+_, _*_, _/_, _<_}
 use native.Mathlib.Omega.{arith}
-use lib.Dec.{T, lit≤}
-use lib.ListN.{length, getD}
-use lib.Ieee.{Float, nan, binary64, ofBits, sub, mul, eq}
+use lib.Dec.{lit≤}
+use lib.ListN.{length}
+use lib.Ieee.{Float, binary64, ofBits, sub, mul, eq}
 use Rattle.vector.specs.declared.Vector.{Vector}
 use Rattle.vector.specs.Vectors.{equalOf}
-use Rattle.vector.proofs.Zeros.{Within, within, under, sub-within, mul-within, none, zero-length, level-sub, Like, like-sub, large, wide, wide-kept, like-cross}
-use Rattle.path.specs.Strokes.{pointAt}
-use Rattle.path.specs.Tests.{mostCoordinate, withinOf, allWithin, coordinateGood, coordinatesGood}
+use Rattle.vector.proofs.Zeros.{Within, within, sub-within, mul-within, none, zero-length, level-sub, Like, like-sub, large, wide, wide-kept, like-cross}
+use Rattle.path.specs.Tests.{mostCoordinate, coordinatesGood}
 use Rattle.path.proofs.Tests.{both}
 use Rattle.mesh.specs.declared.Triangle.{Triangle}
 use Rattle.mesh.specs.Meshes.{cornerAt, faceAt, reachOf, vectorGood}
-use Rattle.mesh.proofs.Tests.{vertex-there}
+use Rattle.mesh.proofs.Limits.{all-within, corner-good}
 use Rattle.mesh_seen.specs.Normals.{acrossOf, flatOf, alikeOf}
 
 -- ---- coordinates within the limit: any limit up to 2^500 would do
 limit : Within large mostCoordinate
 unfolding ofBits
 limit = within _ _ _ (lit≤ tt)
-
-good-within : (x : Float) → coordinateGood x ≡ true → Within large x
-good-within x h = under x limit (subst T (sym h) tt)
-
-all-within : (v : Vector) → vectorGood v ≡ true → Within large (v .x) × Within large (v .y) × Within large (v .z)
-unfolding vectorGood
-all-within v h =
-    let a = both (coordinateGood (v .x) && coordinateGood (v .y)) (coordinateGood (v .z)) h in
-    let b = both (coordinateGood (v .x)) (coordinateGood (v .y)) (a .0) in
-    (good-within (v .x) (b .0), good-within (v .y) (b .1), good-within (v .z) (a .1))
 
 all-equal : (p v : Vector) → equalOf p v ≡ true → (eq (p .x) (v .x) ≡ true) × (eq (p .y) (v .y) ≡ true) × (eq (p .z) (v .z) ≡ true)
 unfolding equalOf
@@ -48,13 +37,13 @@ record Axis : Type 0 where
   equal : (p v : Vector) → equalOf p v ≡ true → eq (read p) (read v) ≡ true
 
 x-axis : Axis
-x-axis = record { read = λ v. v .x; good = λ v h. all-within v h .0; equal = λ p v h. all-equal p v h .0 }
+x-axis = record { read = λ v. v .x; good = λ v h. all-within limit v h .0; equal = λ p v h. all-equal p v h .0 }
 
 y-axis : Axis
-y-axis = record { read = λ v. v .y; good = λ v h. all-within v h .1; equal = λ p v h. all-equal p v h .1 }
+y-axis = record { read = λ v. v .y; good = λ v h. all-within limit v h .1; equal = λ p v h. all-equal p v h .1 }
 
 z-axis : Axis
-z-axis = record { read = λ v. v .z; good = λ v h. all-within v h .2; equal = λ p v h. all-equal p v h .2 }
+z-axis = record { read = λ v. v .z; good = λ v h. all-within limit v h .2; equal = λ p v h. all-equal p v h .2 }
 
 -- ---- a side of a face, from p to v
 abbrev side : Vector → Vector → Axis → Float
@@ -114,20 +103,10 @@ alike-flat t g₁ g₂ g₃ h =
     (either (equalOf (t .v1) (t .v2)) (equalOf (t .v1) (t .v3) || equalOf (t .v2) (t .v3)) h)
 
 -- ---- a face of a mesh
-within-at : (b : Float) (xs : List Float) (k : ℕ) → allWithin b xs ≡ true → k < length xs → withinOf b (getD xs k nan) ≡ true
-within-at b [] k h l = absurd (omega arith)
-within-at b (x ∷ xs) zero h l = both (withinOf b x) (allWithin b xs) h .0
-within-at b (x ∷ xs) (suc k) h l = within-at b xs k (both (withinOf b x) (allWithin b xs) h .1) (omega arith)
-
-point-good : (vs : List Float) (i : ℕ) → coordinatesGood vs ≡ true → i < length vs / 3 → vectorGood (pointAt vs i) ≡ true
-unfolding coordinatesGood vectorGood pointAt
-point-good vs i h l =
-    rw (within-at mostCoordinate vs (i * 3) h (omega arith), within-at mostCoordinate vs (i * 3 + 1) h (omega arith), within-at mostCoordinate vs (i * 3 + 2) h (omega arith))
-
 -- the same of a face of a mesh whose coordinates are within the limit, where the corners of its first n faces are there
 pub alike-face : (vs : List Float) (is : List ℕ) (n f : ℕ) → coordinatesGood vs ≡ true → reachOf (length vs / 3) is n ≡ true → f < n → alikeOf (faceAt vs is f) ≡ true → flatOf (faceAt vs is f) ≡ true
 alike-face vs is n f g h l =
     alike-flat (faceAt vs is f) (corner (f * 3) (omega arith)) (corner (f * 3 + 1) (omega arith)) (corner (f * 3 + 2) (omega arith))
   where
     corner : (k : ℕ) → k < n * 3 → vectorGood (cornerAt vs is k) ≡ true
-    corner k m = point-good vs (getD is k 0) g (vertex-there (length vs / 3) is n k h m)
+    corner k m = corner-good vs is n k g h m

@@ -2,10 +2,10 @@
 use mathlib.Core.Path.{_≡_, refl, sym, ap, _∙_, subst}
 use mathlib.Core.Logic.{_⊎_, inl, inr, ⊎-elim}
 use mathlib.Core.Bool.{true, false}
-use mathlib.Core.List.{List, [], _∷_, _++_}
+use mathlib.Core.List.{List}
 use Prim.Native.Nat.{ℕ, zero, suc, _+_, _-_, _*_, _/_, _≤_, _<_}
 use native.Mathlib.Omega.{arith}
-use lib.ListN.{length, getD, set, length-set, drop, replicate}
+use lib.ListN.{length, getD, set, length-set}
 use lib.Seq.{getD-set-same, getD-set-other}
 use lib.Ieee.{Float, nan}
 use Rattle.refusal.specs.declared.Verdict.the-variants.{Accepted}
@@ -16,16 +16,6 @@ use Rattle.mesh.specs.declared.Triangle.{Triangle}
 use Rattle.mesh.specs.Meshes.{faceAt, reachOf}
 use Rattle.mesh_seen.specs.Normals.{flatOf, normalOf, facingOf}
 use Rattle.mesh_seen.specs.Seen.{faceVerdict, flatFrom, flatVerdict, putSeen, seenFrom, seenAll, normalAt, facingAt}
-
--- ---- a list filled from the front
-fill-suc : {A : Type 0} (n : ℕ) (v : A) (d : List A) → n < length d → set (replicate n v ++ drop n d) n v ≡ replicate (suc n) v ++ drop (suc n) d
-fill-suc zero v [] l = absurd (omega arith)
-fill-suc (suc n) v [] l = absurd (omega arith)
-fill-suc zero v (x ∷ d) l = refl
-fill-suc {A} (suc n) v (x ∷ d) l = ap (λ (t : List A). v ∷ t) (fill-suc n v d (omega arith))
-
-pub fill-more : {A : Type 0} (n : ℕ) (v : A) (d : List A) → n < length d → set (replicate n v ++ drop n d) n v ≡ replicate (n + 1) v ++ drop (n + 1) d
-fill-more n v d l = let e : suc n ≡ n + 1 = omega arith in rw (← e) (fill-suc n v d l)
 
 -- ---- a face at a time
 module _ (at : ℕ → Triangle) where

@@ -9,8 +9,7 @@ use vector::Vector;
 ghost use mathlib.Core.Path.{_≡_};
 ghost use mathlib.Core.Bool.{true};
 ghost use Prim.Native.Nat.{_/_, _<_};
-ghost use lib.ListN.{length, getD, replicate};
-ghost use Rattle.vector.specs.Lengths.{zero64};
+ghost use lib.ListN.{length, getD};
 ghost use Rattle.mesh.specs.Meshes.{cornerAt, faceAt, reachOf};
 ghost use Rattle.refusal.specs.declared.Verdict.the-variants.{Accepted};
 ghost use Rattle.refusal.specs.Said.{verdictSaid};
@@ -188,15 +187,4 @@ pub fn facing_at(seen: &[f64], f: u32) -> f64
     ensures { λ r. ⌜ r ≡ facingAt (now (seen .entry)) f ⌝ }
 {
     number_at(seen, f as usize * 4 + 3)
-}
-
-// Sets every number to 0.
-pub fn clear_seen(seen: &mut [f64])
-    ensures { λ _. ⌜ now (seen .exit) ≡ replicate (length (now (seen .entry))) zero64 ⌝ }
-{
-    let mut i: usize = 0;
-    while i < seen.len() {
-        seen[i] = 0.0;
-        i += 1;
-    }
 }

@@ -6,10 +6,10 @@ use mesh_edges::edges;
 use mesh_keep::kept;
 use mesh_mode::Mode;
 use mesh_mode::needs_of;
-use mesh_seen::clear_seen;
 use mesh_seen::see;
 use order::clear;
 use path::Place;
+use path::clear_numbers;
 use path_splice::splice_pairs;
 use refusal::MOST_FACES;
 use vector::Vector;
@@ -243,6 +243,6 @@ pub fn draw_strokes(
         out_starts,
     );
     clear(scratch);
-    clear_seen(seen);
+    clear_numbers(seen);
     p
 }

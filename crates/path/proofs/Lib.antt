@@ -1,4 +1,5 @@
 pub mod Starts
+pub mod Fills
 pub mod Gathers
 pub mod Pushes
 pub mod Points

@@ -5,8 +5,9 @@ use vector::Vector;
 ghost use mathlib.Core.Path.{_≡_};
 ghost use mathlib.Core.Bool.{cond};
 ghost use Prim.Native.Nat.{_+_, _*_};
-ghost use lib.ListN.{getD, set};
+ghost use lib.ListN.{length, getD, set, replicate};
 ghost use lib.Ieee.{nan};
+ghost use Rattle.vector.specs.Lengths.{zero64};
 ghost use Rattle.path.specs.Strokes.{goodStarts, pointAt};
 ghost use Rattle.path.specs.InnerPushes.{putPoint};
 ghost use Rattle.path.specs.Tests.{shapedOf, countedOf, withinOf, allWithin, coordinateGood, coordinatesGood, entriesGood, stepGood, sizeGood, toleranceGood};
@@ -137,6 +138,17 @@ pub fn put_point(out: &mut [f64], i: usize, v: Vector)
         out[k + 2] = v.z;
     } else {
         put_past(out, i, v);
+    }
+}
+
+// Sets every number to 0.
+pub fn clear_numbers(xs: &mut [f64])
+    ensures { λ _. ⌜ now (xs .exit) ≡ replicate (length (now (xs .entry))) zero64 ⌝ }
+{
+    let mut i: usize = 0;
+    while i < xs.len() {
+        xs[i] = 0.0;
+        i += 1;
     }
 }
 

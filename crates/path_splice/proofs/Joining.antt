@@ -27,25 +27,26 @@ module _ (j k : ℕ → ℕ → Bool) (h : (e f : ℕ) → j e f ≡ k e f) wher
   unfolding links
   links-same m = from-same m m 0 (replicate m 0)
 
--- the points are numbers; `vs` has the value of each end and `todo` what strokes there are
-module _ (d : ℕ) (ss : List (List ℕ)) (todo vs : List ℕ) (there : (i : ℕ) → isZero (getD todo i 0) ≡ isZero (present (getD ss i [])))
-    (value : (e : ℕ) → isZero (getD todo (e / 2) 0) ≡ false → getD vs e 0 ≡ valueAt d ss e) where
+-- Splicing by a test of equality is splicing by the numbers of its classes: `vs` has a number for each end, and two ends that are there
+-- have one number exactly if their points are the same; `todo` says what strokes there are.
+module _ {A : Type 0} (d : A) (same : A → A → Bool) (ss : List (List A)) (todo vs : List ℕ) (there : (i : ℕ) → isZero (getD todo i 0) ≡ isZero (present (getD ss i [])))
+    (agree : (e f : ℕ) → isZero (getD todo (e / 2) 0) ≡ false → isZero (getD todo (f / 2) 0) ≡ false → eqb (getD vs e 0) (getD vs f 0) ≡ same (valueAt d ss e) (valueAt d ss f)) where
   regroup : (a b c : Bool) (n : Bool) → (a && b) && (n && c) ≡ ((a && b) && n) && c
   regroup true true c true = refl
   regroup true true c false = refl
   regroup true false c n = refl
   regroup false b c n = refl
 
-  pub join-is : (e f : ℕ) → fitLive todo vs e f ≡ joinable d eqb ss e f
+  pub join-is : (e f : ℕ) → fitLive todo vs e f ≡ joinable d same ss e f
   unfolding fitLive fit joinable
   join-is e f = go (isZero (getD todo (e / 2) 0)) (isZero (getD todo (f / 2) 0)) refl refl
     where
       go : (a b : Bool) → isZero (getD todo (e / 2) 0) ≡ a → isZero (getD todo (f / 2) 0) ≡ b
           → (not (isZero (getD todo (e / 2) 0)) && not (isZero (getD todo (f / 2) 0))) && (not (eqb (e / 2) (f / 2)) && eqb (getD vs e 0) (getD vs f 0))
-          ≡ ((not (isZero (present (getD ss (e / 2) []))) && not (isZero (present (getD ss (f / 2) [])))) && not (eqb (e / 2) (f / 2))) && eqb (valueAt d ss e) (valueAt d ss f)
+          ≡ ((not (isZero (present (getD ss (e / 2) []))) && not (isZero (present (getD ss (f / 2) [])))) && not (eqb (e / 2) (f / 2))) && same (valueAt d ss e) (valueAt d ss f)
       go true b p q = rw (← there (e / 2), p)
       go false true p q = rw (← there (e / 2), ← there (f / 2), p, q)
-      go false false p q = rw (← there (e / 2), ← there (f / 2), p, q, value e p, value f q)
+      go false false p q = rw (← there (e / 2), ← there (f / 2), p, q, agree e f p q)
 
-  pub links-are : links (fitLive todo vs) (2 * length ss) ≡ links (joinable d eqb ss) (2 * length ss)
-  links-are = links-same (fitLive todo vs) (joinable d eqb ss) join-is (2 * length ss)
+  pub links-are : links (fitLive todo vs) (2 * length ss) ≡ links (joinable d same ss) (2 * length ss)
+  links-are = links-same (fitLive todo vs) (joinable d same ss) join-is (2 * length ss)

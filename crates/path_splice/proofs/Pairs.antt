@@ -10,7 +10,7 @@ use lib.ListN.{length, getD, set, take, drop, replicate, length-replicate, lengt
 use lib.Seq.{drop-cons, ext-getD, length-take-le, take-all}
 use lib.Dec.{leb, eqb}
 use borrow.Author.Tests.{le-leb, leb-true, eq-eqb}
-use Rattle.order.specs.Regions.{region, Off, Into2}
+use Rattle.order.specs.Regions.{region, put, Off, Into2}
 use Rattle.order.proofs.Parts.{into2-none, into2-set, into2-size, into2-region, into2-first, into2-second}
 use Rattle.path.specs.Strokes.{goodFrom, goodStarts, gather, strokesOf, numberAt, strokesIn}
 use Rattle.path_splice_rule.specs.Splice.{firstOf, lastOf, endOf, valueAt, present}
@@ -226,19 +226,19 @@ module _ (s₀ : List ℕ) (n c : ℕ) (H : 8 * n ≤ length s₀) (low : n ≤ 
       ∙ into2-region (6 * n) n (7 * n) n (off-words n) s₀ s1 (Paired n) I (8 * n) k (inl (omega arith)) (inl (omega arith)) (omega arith) ∙ w s₀ refl
 
   pub gives : (op os op′ os′ : List ℕ) (p q : ℕ) → 2 * n ≤ length op → n ≤ length os
-      → ReadOut (strokesIn (take (2 * n) s2) (region s2 (7 * n) (8 * n - 7 * n))) (region s2 (2 * n) (2 * n + c - 2 * n)) op os op′ os′ p q → PairsDrawn s₀ s2 n op os op′ os′ p q
+      → ReadOut put (strokesIn (take (2 * n) s2) (region s2 (7 * n) (8 * n - 7 * n))) (region s2 (2 * n) (2 * n + c - 2 * n)) op os op′ os′ p q → PairsDrawn s₀ s2 n op os op′ os′ p q
   gives op os op′ os′ p q a b Q =
-      let Q1 : ReadOut (strokesIn P U) (region s2 (2 * length U) c) op os op′ os′ p q = rw (p-is, s-is, o-is) at Q in
+      let Q1 : ReadOut put (strokesIn P U) (region s2 (2 * length U) c) op os op′ os′ p q = rw (p-is, s-is, o-is) at Q in
       let L = laid-out P U good s1 s2 c full woven c refl op os op′ os′ p q (omega (arith, long-p)) (omega (arith, I .size2)) Q1 in
       record { out = rw strokes at L; rest = rest-is }
 
 -- the first words lent and cleared
-module _ (s₀ s1 : List ℕ) (n : ℕ) (H : 8 * n ≤ length s₀) (z : length s1 ≡ length s₀) (e : drop (8 * n) s1 ≡ drop (8 * n) s₀) where
-  pub zeroed : (l : List ℕ) → l ≡ replicate (length (take (8 * n) s1)) 0 → l ++ drop (8 * n) s1 ≡ over s₀ (replicate (8 * n) 0)
+module _ (s₀ s1 : List ℕ) (m : ℕ) (H : m ≤ length s₀) (z : length s1 ≡ length s₀) (e : drop m s1 ≡ drop m s₀) where
+  pub zeroed : (l : List ℕ) → l ≡ replicate (length (take m s1)) 0 → l ++ drop m s1 ≡ over s₀ (replicate m 0)
   unfolding over
   zeroed l f =
-      let m : length (take (8 * n) s1) ≡ 8 * n = length-take-le (8 * n) s1 (omega arith) in
-      rw (f, m, length-replicate {A = ℕ} (8 * n) 0, e)
+      let k : length (take m s1) ≡ m = length-take-le m s1 (omega arith) in
+      rw (f, k, length-replicate {A = ℕ} m 0, e)
 
 pub pairs-fit : (n words room starts : ℕ) → pairsFit n words room starts ≡ true → (8 * n ≤ words) × (n ≤ mostStrokes) × (2 * n ≤ room) × (n ≤ starts)
 unfolding pairsFit

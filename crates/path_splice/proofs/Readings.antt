@@ -11,13 +11,14 @@ use lib.Seq.{drop-cons, length-take-le, length-front, take-at, ext-getD}
 use mathlib.Core.Logic.{inr}
 use Rattle.order.specs.Regions.{region, put, Off}
 use Rattle.path.specs.Strokes.{strokesIn}
+use Rattle.path.proofs.Pushes.{Lays, over-sets}
 use Rattle.path_splice.specs.InnerText.{Spans, entryText, startMark, orderText, marksOf, ReadOut, Filled}
 use Rattle.path_splice_rule.specs.Splice.{turned, readFrom, valueAt, present}
 use Rattle.path_splice_rule.proofs.Ends.{is-zero, not-zero}
 use Rattle.order.proofs.Parts.{put-append, length-region, put-lent, region-off, region-put}
 use Rattle.path_splice.proofs.Tables.{region-first, region-last}
 
-nothing : (k j : ℕ) → _≡_ {A = List ℕ} (drop k (turned j [])) []
+pub nothing : {A : Type 0} (k j : ℕ) → _≡_ {A = List A} (drop k (turned j [])) []
 unfolding turned
 nothing zero zero = refl
 nothing zero (suc j) = refl
@@ -88,63 +89,75 @@ pub put-single : (s : List ℕ) (a x : ℕ) (l : List ℕ) → l ≡ x ∷ [] �
 unfolding put
 put-single s a x l e = rw e
 
--- the loop over an order
-pub record Reading (ss : List (List ℕ)) (order op os : List ℕ) (op′ os′ : List ℕ) (p q j : ℕ) : Type 0 where
-  pub points : put op 0 (orderText ss order) ≡ put op′ p (orderText ss (drop j order))
+-- words lie as they are
+pub words-lie : Lays put (λ ns. ns) 1
+unfolding put
+words-lie = record { none = λ l i. refl; more = put-append; fore = λ l new h. over-sets l new (omega arith) }
+
+-- the loop over an order, where `write` stores points from a place on
+pub record Reading {A B : Type 0} (write : List B → ℕ → List A → List B) (ss : List (List A)) (order : List ℕ) (op : List B) (os : List ℕ) (op′ : List B) (os′ : List ℕ) (p q j : ℕ) : Type 0 where
+  pub points : write op 0 (orderText ss order) ≡ write op′ p (orderText ss (drop j order))
   pub starts : put os 0 (marksOf ss 0 order) ≡ put os′ q (marksOf ss p (drop j order))
   pub many : length (orderText ss order) ≡ p + length (orderText ss (drop j order))
   pub chains : length (marksOf ss 0 order) ≡ q + length (marksOf ss p (drop j order))
 
-pub reading : (ss : List (List ℕ)) (order op os : List ℕ) → Reading ss order op os op os 0 0 0
-reading ss order op os = record { points = refl; starts = refl; many = omega arith; chains = omega arith }
+module _ {A B : Type 0} {write : List B → ℕ → List A → List B} {flat : List A → List B} {width : ℕ} (lays : Lays write flat width) (ss : List (List A)) (order : List ℕ) (op : List B) (os : List ℕ) where
+  pub reading : Reading write ss order op os op os 0 0 0
+  reading = record { points = refl; starts = refl; many = omega arith; chains = omega arith }
 
-module _ (ss : List (List ℕ)) (order op os op1 os1 : List ℕ) (p q j : ℕ) (R : Reading ss order op os op1 os1 p q j) (h : j < length order) where
-  abbrev x : ℕ
-  x = getD order j 0
+  module _ (op1 : List B) (os1 : List ℕ) (p q j : ℕ) (R : Reading write ss order op os op1 os1 p q j) where
+    module _ (h : j < length order) where
+      abbrev x : ℕ
+      x = getD order j 0
 
-  text-is : orderText ss (drop j order) ≡ entryText ss x ++ orderText ss (drop (j + 1) order)
-  unfolding orderText
-  text-is = rw (drop-cons order j 0 h, add-one)
+      abbrev rest : List A
+      rest = orderText ss (drop (j + 1) order)
 
-  marks-is : marksOf ss p (drop j order) ≡ startMark p x ++ marksOf ss (p + length (entryText ss x)) (drop (j + 1) order)
-  unfolding marksOf
-  marks-is = rw (drop-cons order j 0 h, add-one)
+      abbrev marks : List ℕ
+      marks = marksOf ss (p + length (entryText ss x)) (drop (j + 1) order)
 
-  text-size : length (orderText ss (drop j order)) ≡ length (entryText ss x) + length (orderText ss (drop (j + 1) order))
-  text-size = ap length text-is ∙ length-append (entryText ss x) (orderText ss (drop (j + 1) order))
+      text-is : orderText ss (drop j order) ≡ entryText ss x ++ rest
+      unfolding orderText
+      text-is = rw (drop-cons order j 0 h, add-one)
 
-  marks-size : length (marksOf ss p (drop j order)) ≡ length (startMark p x) + length (marksOf ss (p + length (entryText ss x)) (drop (j + 1) order))
-  marks-size = ap length marks-is ∙ length-append (startMark p x) (marksOf ss (p + length (entryText ss x)) (drop (j + 1) order))
+      marks-is : marksOf ss p (drop j order) ≡ startMark p x ++ marks
+      unfolding marksOf
+      marks-is = rw (drop-cons order j 0 h, add-one)
 
-  pub point-room : p + length (entryText ss x) ≤ length (orderText ss order)
-  point-room = omega (arith, text-size, R .many)
+      text-size : length (orderText ss (drop j order)) ≡ length (entryText ss x) + length rest
+      text-size = ap length text-is ∙ length-append (entryText ss x) rest
 
-  pub mark-room : q + length (startMark p x) ≤ length (marksOf ss 0 order)
-  mark-room = omega (arith, marks-size, R .chains)
+      marks-size : length (marksOf ss p (drop j order)) ≡ length (startMark p x) + length marks
+      marks-size = ap length marks-is ∙ length-append (startMark p x) marks
 
-  pub reading-more : (op2 os2 : List ℕ) (p2 q2 : ℕ) → op2 ≡ put op1 p (entryText ss x) → p2 ≡ p + length (entryText ss x) → os2 ≡ put os1 q (startMark p x) → q2 ≡ q + length (startMark p x)
-      → Reading ss order op os op2 os2 p2 q2 (j + 1)
-  reading-more op2 os2 p2 q2 a b d e =
-      let M = marksOf ss (p + length (entryText ss x)) (drop (j + 1) order) in
-      record {
-        points = R .points ∙ ap (put op1 p) text-is ∙ sym (put-append op1 p (entryText ss x) (orderText ss (drop (j + 1) order))) ∙ ap (λ (z : List ℕ). put z (p + length (entryText ss x)) (orderText ss (drop (j + 1) order))) (sym a) ∙ ap (λ (z : ℕ). put op2 z (orderText ss (drop (j + 1) order))) (sym b);
-        starts = R .starts ∙ ap (put os1 q) marks-is ∙ sym (put-append os1 q (startMark p x) M) ∙ ap (λ (z : List ℕ). put z (q + length (startMark p x)) M) (sym d) ∙ ap (λ (z : ℕ). put os2 z M) (sym e) ∙ ap (λ (z : ℕ). put os2 q2 (marksOf ss z (drop (j + 1) order))) (sym b);
-        many = omega (arith, R .many, text-size);
-        chains = R .chains ∙ omega (arith, marks-size) ∙ ap (λ (z : ℕ). q2 + length (marksOf ss z (drop (j + 1) order))) (sym b);
-      }
+      pub point-room : p + length (entryText ss x) ≤ length (orderText ss order)
+      point-room = omega (arith, text-size, R .many)
 
-pub read-all : (ss : List (List ℕ)) (order op os op1 os1 : List ℕ) (p q j : ℕ) → Reading ss order op os op1 os1 p q j → length order ≤ j → ReadOut ss order op os op1 os1 p q
-unfolding orderText marksOf put
-read-all ss order op os op1 os1 p q j R h =
-    let e : drop j order ≡ [] = drop-of-length-le order h in
-    let t : orderText ss (drop j order) ≡ [] = rw e in
-    let m : marksOf ss p (drop j order) ≡ [] = rw e in
-    record {
-      points = sym (R .points ∙ ap (put op1 p) t);
-      starts = sym (R .starts ∙ ap (put os1 q) m);
-      many = omega (arith, R .many, ap length t);
-      chains = omega (arith, R .chains, ap length m);
-    }
+      pub mark-room : q + length (startMark p x) ≤ length (marksOf ss 0 order)
+      mark-room = omega (arith, marks-size, R .chains)
+
+      pub reading-more : (op2 : List B) (os2 : List ℕ) (p2 q2 : ℕ) → op2 ≡ write op1 p (entryText ss x) → p2 ≡ p + length (entryText ss x) → os2 ≡ put os1 q (startMark p x) → q2 ≡ q + length (startMark p x)
+          → Reading write ss order op os op2 os2 p2 q2 (j + 1)
+      reading-more op2 os2 p2 q2 a b d e =
+          record {
+            points = R .points ∙ ap (write op1 p) text-is ∙ sym (lays .more op1 p (entryText ss x) rest) ∙ ap (λ (z : List B). write z (p + length (entryText ss x)) rest) (sym a) ∙ ap (λ (z : ℕ). write op2 z rest) (sym b);
+            starts = R .starts ∙ ap (put os1 q) marks-is ∙ sym (put-append os1 q (startMark p x) marks) ∙ ap (λ (z : List ℕ). put z (q + length (startMark p x)) marks) (sym d) ∙ ap (λ (z : ℕ). put os2 z marks) (sym e) ∙ ap (λ (z : ℕ). put os2 q2 (marksOf ss z (drop (j + 1) order))) (sym b);
+            many = omega (arith, R .many, text-size);
+            chains = R .chains ∙ omega (arith, marks-size) ∙ ap (λ (z : ℕ). q2 + length (marksOf ss z (drop (j + 1) order))) (sym b);
+          }
+
+    pub read-all : length order ≤ j → ReadOut write ss order op os op1 os1 p q
+    unfolding orderText marksOf put
+    read-all h =
+        let e : drop j order ≡ [] = drop-of-length-le order h in
+        let t : orderText ss (drop j order) ≡ [] = rw e in
+        let m : marksOf ss p (drop j order) ≡ [] = rw e in
+        record {
+          points = sym (R .points ∙ ap (write op1 p) t ∙ lays .none op1 p);
+          starts = sym (R .starts ∙ ap (put os1 q) m);
+          many = omega (arith, R .many, ap length t);
+          chains = omega (arith, R .chains, ap length m);
+        }
 
 -- the two parts that are lent and filled
 pub filled : (ss : List (List ℕ)) (s : List ℕ) (n : ℕ) → length ss ≡ n → 7 * n ≤ length s → (l k : List ℕ) → length l ≡ length (take (2 * n) s) → ((e : ℕ) → e < length (take (2 * n) s) → getD l e 0 ≡ valueAt 0 ss e)

@@ -198,7 +198,7 @@ fn read_out(
     requires { ⌜ (length (orderText (strokesIn (now points) (now starts)) (now order)) ≤ length (now «out_points»))
         × (length (orderText (strokesIn (now points) (now starts)) (now order)) ≤ mostPoints)
         × (length (marksOf (strokesIn (now points) (now starts)) 0 (now order)) ≤ length (now «out_starts»)) ⌝ }
-    ensures { λ r. ⌜ ReadOut (strokesIn (now (points .entry)) (now (starts .entry))) (now (order .entry)) (now («out_points» .entry)) (now («out_starts» .entry))
+    ensures { λ r. ⌜ ReadOut put (strokesIn (now (points .entry)) (now (starts .entry))) (now (order .entry)) (now («out_points» .entry)) (now («out_starts» .entry))
         (now («out_points» .exit)) (now («out_starts» .exit)) (r .points) (r .starts) ⌝ }
 {
     let mut p: usize = 0;

@@ -12,11 +12,11 @@ use Rattle.order.proofs.Tests.{both-left, both-right}
 use Rattle.path_splice_rule.proofs.Totals.{sum-append}
 
 -- one element of a list, taken off: whatever does not tell it from x counts it as x
-record Rest {B : Type 0} (near : B → ℕ) (x : B) (m : List B) : Type 0 where
-  rest : List B
-  takes : (h : B → ℕ) → ((z : B) → near z ≢ 0 → h z ≡ h x) → sum h m ≡ h x + sum h rest
+pub record Rest {B : Type 0} (near : B → ℕ) (x : B) (m : List B) : Type 0 where
+  pub rest : List B
+  pub takes : (h : B → ℕ) → ((z : B) → near z ≢ 0 → h z ≡ h x) → sum h m ≡ h x + sum h rest
 
-extract : {B : Type 0} (near : B → ℕ) (x : B) (m : List B) → sum near m ≢ 0 → Rest near x m
+pub extract : {B : Type 0} (near : B → ℕ) (x : B) (m : List B) → sum near m ≢ 0 → Rest near x m
 unfolding sum
 extract near x [] n = absurd (n refl)
 extract {B} near x (z ∷ m) n = elim (ℕ-discrete (near z) 0) [ yes q ↦ later q (λ k. extract near x m k) | no q ↦ record { rest = m; takes = λ h c. omega (arith, c z q) } ]
@@ -70,11 +70,11 @@ module _ {A : Type 0} (same : A → A → Bool) (law : Law same) where
   unfolding isPair
   pair-turn a b x y = ap one (or-comm (same a x && same b y) (same a y && same b x))
 
-  pair-self : (a b : A) → isPair same a b a b ≡ 1
+  pub pair-self : (a b : A) → isPair same a b a b ≡ 1
   unfolding isPair
   pair-self a b = rw (law .self a, law .self b)
 
-  pair-near : (g : A → A → ℕ) → ((x y : A) → g x y ≡ g y x) → (a b x y : A) → isPair same a b x y ≢ 0 → g x y ≡ g a b
+  pub pair-near : (g : A → A → ℕ) → ((x y : A) → g x y ≡ g y x) → (a b x y : A) → isPair same a b x y ≢ 0 → g x y ≡ g a b
   unfolding isPair
   pair-near g c a b x y h = go (or-cases (same a x && same b y) (same a y && same b x) h)
     where

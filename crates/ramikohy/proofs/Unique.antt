@@ -11,6 +11,7 @@ use Rattle.vector.specs.declared.Vector.{Vector}
 use Rattle.path.specs.Call as P
 use Rattle.path_splice.specs.Call as S
 use Rattle.mesh_weld.specs.Call as W
+use Rattle.mesh_contour.specs.Call as C
 use Rattle.mesh_strokes.specs.Call as D
 use Rattle.sheet_write.specs.Call as O
 use Rattle.stl_write.specs.Call as F
@@ -72,6 +73,11 @@ pub one-weld : (x : Called W.Lent) → One (ℕ × List ℕ × List ℕ × List 
 one-weld x r t p q =
     let e = one-called x (r .0, r .1, W.lent (r .2) (r .3) (r .4)) (t .0, t .1, W.lent (t .2) (t .3) (t .4)) p q in
     λ i. (e i .0, e i .1, e i .2 .scratch, e i .2 .vertices, e i .2 .indices)
+
+pub one-contour : (x : Called C.Lent) → One (ℕ × List ℕ × List ℕ × List Float × List Float × List ℕ) (λ o. called (o .0) (o .1) (C.lent (o .2) (o .3) (o .4) (o .5)) ≡ x)
+one-contour x r t p q =
+    let e = one-called x (r .0, r .1, C.lent (r .2) (r .3) (r .4) (r .5)) (t .0, t .1, C.lent (t .2) (t .3) (t .4) (t .5)) p q in
+    λ i. (e i .0, e i .1, e i .2 .words, e i .2 .numbers, e i .2 .points, e i .2 .starts)
 
 -- draw has a place for a face besides
 one-faced : {L : Type 0} (x : Faced L) → One (ℕ × List ℕ × L × ℕ) (λ o. faced (called (o .0) (o .1) (o .2)) (o .3) ≡ x)

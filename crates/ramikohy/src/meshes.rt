@@ -1,6 +1,7 @@
 // The calls on meshes for C and Rust. The result is the status, 0 or the refusal's number; the counts go out
 // through the last parameters, which a refusal leaves as they were, and behind them the face that a refusal carries.
 use crate::point;
+use mesh_contour::Contoured;
 use mesh_draw::Drawing;
 use mesh_section::Plane;
 use mesh_section::Sectioned;
@@ -14,6 +15,7 @@ ghost use Rattle.refusal.specs.Refusals.{numberOf, carriedBy};
 ghost use Rattle.path.specs.Call.{lent};
 ghost use Rattle.mesh_weld.specs.Call.{lent as weldLent, weldLeft};
 ghost use Rattle.mesh_section.specs.Call.{sectionLeft};
+ghost use Rattle.mesh_contour.specs.Call.{lent as contourLent, contourLeft};
 ghost use Rattle.mesh_strokes.specs.Call.{lent as drawLent};
 ghost use Rattle.mesh_draw.specs.Call.{sight, drawLeft};
 ghost use Rattle.ramikohy.specs.Points.{pointOf};
@@ -78,6 +80,53 @@ pub extern "C" fn ramikohy_section(
             0
         }
         Sectioned::Refused(why) => refusal::number(why),
+    }
+}
+
+// The outline in which a plane cuts a mesh.
+#[no_mangle]
+pub extern "C" fn ramikohy_contour(
+    vertices: &[f64],
+    indices: &[u32],
+    plane_point: &[f64; 3],
+    plane_normal: &[f64; 3],
+    tolerance: f64,
+    scratch: &mut [u32],
+    numbers: &mut [f64],
+    out_points: &mut [f64],
+    out_starts: &mut [u32],
+    point_count: &mut usize,
+    start_count: &mut usize,
+) -> u32
+    ensures { λ r. ⌜ called r (now («point_count» .exit) ∷ now («start_count» .exit) ∷ []) (contourLent (now (scratch .exit)) (now (numbers .exit)) (now («out_points» .exit)) (now («out_starts» .exit)))
+        ≡ calledBy
+        (contourLeft (now (vertices .entry)) (now (indices .entry)) (record { point = pointOf (now («plane_point» .entry)); normal = pointOf (now («plane_normal» .entry)) }) tolerance
+        (now (scratch .entry)) (now (numbers .entry)) (now («out_points» .entry)) (now («out_starts» .entry)))
+        (now («point_count» .entry) ∷ now («start_count» .entry) ∷ []) ⌝ }
+{
+    let plane = Plane {
+        point: point(plane_point),
+        normal: point(plane_normal),
+    };
+    match mesh_contour::contour(
+        vertices,
+        indices,
+        plane,
+        tolerance,
+        scratch,
+        numbers,
+        out_points,
+        out_starts,
+    ) {
+        Contoured::Wrote {
+            points: p,
+            starts: s,
+        } => {
+            *point_count = p;
+            *start_count = s;
+            0
+        }
+        Contoured::Refused(why) => refusal::number(why),
     }
 }
 

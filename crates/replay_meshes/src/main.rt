@@ -1,9 +1,11 @@
-// Works the stored rows of draw, weld and section out by the proved crates, and counts those whose answer is another.
+// Works the stored rows of draw, weld, section and contour out by the proved crates, and counts those whose answer is
+// another.
 //
 // A row is words of hexadecimal digits with a space between: the call's number, the status, how many numbers each list has, the
 // other numbers, the lists and, where the call is accepted, its counts and what it wrote, or else the face that the refusal carries, if
 // it carries one. What is lent holds a pattern, so that what must stay is seen. A row that is no row of a call counts as one that differs.
 use libc::STDIN_FILENO;
+use mesh_contour::Contoured;
 use mesh_draw::Drawing;
 use mesh_section::Plane;
 use mesh_section::Sectioned;
@@ -29,7 +31,7 @@ use replay_rows::wrote;
 use vector::Vector;
 
 // How many functions are counted, with that of no row.
-const FUNCTIONS: usize = 4;
+const FUNCTIONS: usize = 5;
 
 // The point at a place.
 fn point(page: &[u64; 256], at: usize) -> Vector {
@@ -210,12 +212,57 @@ fn section_agrees(page: &[u64; 256]) -> bool {
     section_leaves(page, past(at, ni), &vertices[..nv], &indices[..ni])
 }
 
+// ---- contour: as section
+
+fn contour_answer(answer: Contoured) -> Answer {
+    match answer {
+        Contoured::Wrote {
+            points: p,
+            starts: s,
+        } => wrote(p, s),
+        Contoured::Refused(why) => refused(refusal::number(why)),
+    }
+}
+
+// Whether contour leaves what the row says from place `at` on. There is scratch for sixteen faces and room for
+// thirteen.
+fn contour_leaves(page: &[u64; 256], at: usize, vertices: &[f64], indices: &[u32]) -> bool {
+    let mut scratch = [DIRT; 260];
+    let mut store = [GRIT; 130];
+    let mut out = [GRIT; 80];
+    let mut marks = [DIRT; 13];
+    let answer = mesh_contour::contour(
+        vertices,
+        indices,
+        plane(page),
+        real_at(page, 4),
+        &mut scratch[..],
+        &mut store[..],
+        &mut out[..],
+        &mut marks[..],
+    );
+    let a = contour_answer(answer);
+    scratch_left(page, a.status, &scratch[..])
+        && seen_left(page, a.status, &store[..])
+        && points_left(page, at, a, &out[..], &marks[..])
+}
+
+fn contour_agrees(page: &[u64; 256]) -> bool {
+    let nv = size(page, 2);
+    let ni = size(page, 3);
+    let vertices = reals(page, 11);
+    let at = past(11, nv);
+    let indices = numbers(page, at);
+    contour_leaves(page, past(at, ni), &vertices[..nv], &indices[..ni])
+}
+
 // A row of no call does not agree.
 fn agrees(page: &[u64; 256]) -> bool {
     match page[0] {
         1 => draw_agrees(page),
         2 => weld_agrees(page),
         3 => section_agrees(page),
+        4 => contour_agrees(page),
         _ => false,
     }
 }
@@ -259,7 +306,7 @@ fn main() {
     let mut counts = [0u64; 64];
     read_rows(&mut counts);
     replay_rows::print_rows(
-        b"no function     draw            weld            section         ",
+        b"no function     draw            weld            section         contour         ",
         &counts,
     );
 }

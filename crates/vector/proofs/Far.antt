@@ -60,7 +60,7 @@ twice false k f = refl
 twice true k f = ap square (turned (k * up f * down f + k * up f * down f) (down f * down f)) ∙ square-turned _
 
 -- ---- rounding leaves an f64 as it is
-own : (m : ℕ) (e : ℤ) → T (fits binary64 (fin false (suc m) e)) → HasValue (round binary64 false (suc m * up e) (down e)) false (suc m * up e) (down e)
+pub own : (m : ℕ) (e : ℤ) → T (fits binary64 (fin false (suc m) e)) → HasValue (round binary64 false (suc m * up e) (down e)) false (suc m * up e) (down e)
 unfolding unitsOf
 own m e h =
     let x = fin false (suc m) e in

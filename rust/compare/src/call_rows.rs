@@ -1,13 +1,13 @@
 //! Stored rows of the calls on lent lists: an input, and what the rules and the original say that the call leaves, one to a
 //! line. The programs `replay`, `replay_strokes`, `replay_meshes`, `replay_sheets` and `replay_stl` work them out by the proved crates.
 //!
-//! A row is words of hexadecimal digits with one space between: the call's number, the status, how many numbers each list of
-//! the input has, the other numbers, the lists and, where the status is 0, the counts and what was written; where it is 7 or 10, the
-//! face. Every list that is lent has [`LENT`] elements; a drawing's have their own lengths, `DRAWN`, and of those lent to a call on
-//! files the row says how long they are.
+//! A row is words of hexadecimal digits with one space between: the call's number, the status, how many numbers each
+//! list of the input has, the other numbers, the lists and, where the status is 0, the counts and what was written;
+//! where it is 7 or 10, the face. Every list that is lent has [`LENT`] elements; a drawing's and a contour's have their
+//! own lengths, `DRAWN` and `CONTOURED`, and of those lent to a call on files the row says how long they are.
 
 use crate::calls::strokes::bits;
-use crate::calls::{Left, Lent, adaptive, chop, draw, read_sheet, read_stl, section};
+use crate::calls::{Left, Lent, adaptive, chop, contour, draw, read_sheet, read_stl, section};
 use crate::calls::{simplify, splice, weld, write_sheet, write_stl};
 use crate::random::Random;
 
@@ -19,6 +19,10 @@ const READ: [usize; 2] = [10, 3];
 
 /// The words, numbers, points and starts that a drawing is lent: scratch for five faces, and room for four.
 const DRAWN: [usize; 4] = [330, 22, 27, 13];
+
+/// The words, numbers, coordinates and starts that a contour is lent: scratch for sixteen faces, and room for
+/// thirteen.
+const CONTOURED: [usize; 4] = [260, 130, 80, 13];
 
 /// The most words that a row may have: what the programs hold.
 const MOST_WORDS: usize = 247;
@@ -50,6 +54,7 @@ pub fn mesh_rows() -> Vec<String> {
     all.extend(made(&mut random, section_row));
     all.extend(made(&mut random, alike_row).into_iter().take(FLAT_ROWS));
     all.extend(made(&mut random, no_length_row).into_iter().take(FLAT_ROWS));
+    all.extend(made(&mut random, contour_row));
     all
 }
 
@@ -184,6 +189,21 @@ fn section_row(random: &mut Random) -> Option<Vec<u64>> {
     let numbers = [bits(input.tolerance)].into_iter().chain(reals(&input.plane));
     let lists = numbers.chain(reals(&input.vertices)).chain(words(&input.indices)).collect();
     row(3, &[input.vertices.len(), input.indices.len()], lists, &section::judged(&input), 3)
+}
+
+fn contour_row(random: &mut Random) -> Option<Vec<u64>> {
+    let [words_lent, numbers, points, starts] = CONTOURED;
+    let lent = Lent {
+        scratch: vec![7; words_lent],
+        numbers: vec![bits(9.0); numbers],
+        points: vec![bits(9.0); points],
+        starts: vec![7; starts],
+        face: None,
+    };
+    let input = contour::Input { lent, ..contour::make(random) };
+    let numbers = [bits(input.tolerance)].into_iter().chain(reals(&input.plane));
+    let lists = numbers.chain(reals(&input.vertices)).chain(words(&input.indices)).collect();
+    row(4, &[input.vertices.len(), input.indices.len()], lists, &contour::judged(&input), 3)
 }
 
 fn simplify_row(random: &mut Random) -> Option<Vec<u64>> {

@@ -6,6 +6,7 @@
 
 pub mod adaptive;
 pub mod chop;
+pub mod contour;
 pub mod draw;
 pub mod mesh;
 pub mod read_sheet;
@@ -117,6 +118,7 @@ pub const LINKED: &[Linked] = &[
     Linked { name: "simplify", run: simplify::run },
     Linked { name: "weld", run: weld::run },
     Linked { name: "section", run: section::run },
+    Linked { name: "contour", run: contour::run },
     Linked { name: "draw", run: draw::run },
     Linked { name: "write_sheet", run: write_sheet::run },
     Linked { name: "read_sheet", run: read_sheet::run },

@@ -161,6 +161,17 @@ pub fn section(vertices: &[f64], indices: &[u32], plane: &[f64; 6], tolerance: f
     ])
 }
 
+/// What a contour is refused for, by the lengths that it is lent: words and numbers of scratch, coordinates and starts.
+/// Room is a section's, and scratch is tested before it.
+pub fn contour(vertices: &[f64], indices: &[u32], plane: &[f64; 6], tolerance: f64, lent: [usize; 4]) -> u32 {
+    let faces = indices.len() / 3;
+    let scratch = lent[0] >= 16 * faces && lent[1] >= 8 * faces;
+    match section(vertices, indices, plane, tolerance, [lent[2], lent[3]]) {
+        0 | ROOM if !scratch => SCRATCH,
+        status => status,
+    }
+}
+
 /// What writing a sheet is refused for, by the sheet's length and the room for it. A table at fault has no length.
 pub fn write_sheet(mode: u32, vertices: u32, numbers: &[u32], starts: &[u32], room: usize) -> u32 {
     let length = || 24 + 4 * non_empty(starts, numbers.len()).len() + 4 * numbers.len();

@@ -1,7 +1,7 @@
 //! The judge of the calls on buffers: the worked cases of the rules, by the original, and what must hold of all answers.
 #![cfg(original)]
 
-use compare::calls::{Left, Lent, adaptive, chop, draw, section, simplify, splice, weld};
+use compare::calls::{Left, Lent, adaptive, chop, contour, draw, section, simplify, splice, weld};
 use compare::calls::{read_sheet, read_stl, write_sheet, write_stl};
 use compare::random::Random;
 use std::collections::BTreeMap;
@@ -178,6 +178,77 @@ fn sections_of_the_rules() {
     assert_eq!(written(&left, 3), (twice.to_vec(), vec![0]));
 }
 
+/// The planes of the worked contours: x = 1 and z = 0.
+const X: [f64; 6] = [1.0, 0.0, 0.0, 1.0, 0.0, 0.0];
+const Z: [f64; 6] = [0.0, 0.0, 0.0, 0.0, 0.0, 1.0];
+
+/// The strokes of a contour. No zero that is written has a sign, and scratch is left zero.
+fn contoured(plane: [f64; 6], tolerance: f64, vertices: &[[f64; 3]], faces: &[[u32; 3]]) -> Vec<Vec<[f64; 3]>> {
+    let input = contour::of_mesh(vertices.as_flattened(), faces.as_flattened(), plane, tolerance);
+    let left = contour::judged(&input);
+    assert!(left.status == 0 && contour::is_sound(&input, &left));
+    let strokes = contour::strokes(&left);
+    assert!(strokes.iter().flatten().flatten().all(|&bits| bits != (-0.0f64).to_bits()));
+    assert_eq!((left.lent.scratch, left.lent.numbers), (vec![0; 16 * faces.len()], vec![0; 8 * faces.len()]));
+    strokes.iter().map(|s| s.iter().map(|p| p.map(f64::from_bits)).collect()).collect()
+}
+
+#[test]
+fn contours_of_the_rules() {
+    let hat = [[0.0, 0.0, 0.0], [1.0, 1.0, 0.0], [2.0, 0.0, 0.0]];
+    assert_eq!(contoured(X, 1e-9, &hat, &[[0, 1, 2]]), [[[1.0, 1.0, 0.0], [1.0, 0.0, 0.0]]]);
+    assert_eq!(contoured(X, 1e-9, &hat, &[[2, 0, 1]]), [[[1.0, 0.0, 0.0], [1.0, 1.0, 0.0]]]);
+    let side = [[1.0, 0.0, 0.0], [1.0, 1.0, 0.0]];
+    let with = |third| contoured(X, 1e-9, &[side[0], side[1], third], &[[0, 1, 2]]);
+    assert_eq!(with([2.0, 0.0, 0.0]), [side]);
+    assert!(with([0.0, 0.0, 0.0]).is_empty());
+    let at_tolerance = [[1.5, 0.0, 0.0], [0.5, 0.0, 0.0], [1.25, 1.0, 0.0]];
+    assert_eq!(contoured(X, 0.5, &at_tolerance, &[[0, 1, 2]]), [[[1.0, 0.0, 0.0], [1.25, 1.0, 0.0]]]);
+    let signed = [[-0.0, 0.0, -0.0], [1.0, -0.0, 0.0], [0.0, 0.0, 1.0], [0.0, 0.0, 0.0], [0.0, 1.0, -0.0]];
+    let one = [[1.0, 0.0, 0.0], [0.0, 0.0, 0.0], [0.0, 1.0, 0.0]];
+    assert_eq!(contoured(Z, 1e-9, &signed, &[[0, 1, 2], [3, 4, 2]]), [one]);
+    let tetrahedron = [[0.0, 0.0, 0.0], [2.0, 0.0, 0.0], [0.0, 2.0, 0.0], [0.0, 0.0, 2.0]];
+    let faces = [[0, 2, 1], [0, 1, 3], [0, 3, 2], [1, 2, 3]];
+    let ring = [[0.0, 0.0, 1.0], [1.0, 0.0, 1.0], [0.0, 1.0, 1.0], [0.0, 0.0, 1.0]];
+    assert_eq!(contoured([0.0, 0.0, 1.0, 0.0, 0.0, 1.0], 1e-9, &tetrahedron, &faces), [ring]);
+}
+
+/// A crossing has the same bits in both faces of its edge, though they have it the other way round.
+#[test]
+fn a_crossing_is_worked_from_the_lower_vertex() {
+    let vertices = [[0.0, 0.0, -0.1], [0.1, 0.0, 0.3], [0.0, 1.0, -0.1], [0.0, -1.0, -0.1]];
+    let strokes = contoured(Z, 1e-9, &vertices, &[[0, 1, 2], [1, 0, 3]]);
+    assert_eq!(strokes.len(), 1);
+    assert_eq!(strokes[0][1].map(f64::to_bits), [0x3F9999999999999A, 0, 0]);
+    for face in [[0, 1, 2], [1, 0, 3]] {
+        let alone = contoured(Z, 1e-9, &vertices, &[face]).concat();
+        assert!(alone.iter().any(|p| p[0].to_bits() == 0x3F9999999999999A), "{alone:?}");
+    }
+}
+
+/// A face that is cut, and one that is not, with these words, numbers, coordinates and starts lent.
+#[test]
+fn contours_refused_by_the_rules() {
+    let status = |z: f64, [words, numbers, points, starts]: [usize; 4]| {
+        let vertices = [0.0, 0.0, z, 1.0, 0.0, 1.0, 0.0, 1.0, 1.0];
+        let lent = Lent {
+            scratch: vec![7; words],
+            numbers: vec![7; numbers],
+            points: vec![5; points],
+            starts: vec![9; starts],
+            face: None,
+        };
+        let left = contour::judged(&contour::Input { lent, ..contour::of_mesh(&vertices, &[0, 1, 2], Z, 1e-9) });
+        left.status
+    };
+    for z in [-1.0, 1.0] {
+        assert_eq!(status(z, [16, 8, 6, 1]), 0);
+        assert_eq!([[15, 8, 6, 1], [16, 7, 6, 1], [15, 7, 0, 0]].map(|lent| status(z, lent)), [5; 3]);
+        assert_eq!([[16, 8, 3, 1], [16, 8, 5, 1], [16, 8, 6, 0]].map(|lent| status(z, lent)), [6; 3]);
+    }
+    assert_eq!(status(f64::NAN, [0; 4]), 4);
+}
+
 /// Which statuses random inputs meet.
 fn met<I, P>(make: fn(&mut Random) -> I, judged: fn(&I) -> Left<P>) -> Vec<u32> {
     let mut random = Random::new(3);
@@ -196,6 +267,7 @@ fn random_inputs_meet_every_refusal_that_they_can() {
     assert_eq!(met(weld::make, weld::judged), [0, 1, 4, 5, 6]);
     assert_eq!(met(draw::make, draw::judged), [0, 1, 3, 4, 5, 6, 7, 10]);
     assert_eq!(met(section::make, section::judged), [0, 1, 3, 4, 6]);
+    assert_eq!(met(contour::make, contour::judged), [0, 1, 3, 4, 5, 6]);
     assert_eq!(met(write_sheet::make, write_sheet::judged), [0, 1, 2, 3, 4, 6]);
     assert_eq!(met(read_sheet::make, read_sheet::judged), [0, 6, 9]);
     assert_eq!(met(write_stl::make, write_stl::judged), [0, 1, 3, 4, 6]);
@@ -238,6 +310,72 @@ fn random_drawings_meet_flat_faces_of_every_kind() {
     }
     println!("{seen:?}");
     assert!(seen.len() == 9 && seen.values().all(|&n| n >= 100), "{seen:?}");
+}
+
+/// What a random contour may have to do with the plane and with its ends, all of which must come often.
+fn notable_cut(input: &contour::Input) -> Vec<&'static str> {
+    use contour::Side::{Above, Below, On};
+    let left = contour::judged(input);
+    if left.status != 0 {
+        return vec![];
+    }
+    let (segments, strokes) = (input.segments(), contour::strokes(&left));
+    let faces: Vec<[u32; 3]> = input.indices.chunks_exact(3).map(|f| [f[0], f[1], f[2]]).collect();
+    let counts = |f: &[u32; 3]| [Above, Below, On].map(|s| f.iter().filter(|&&v| input.side(v) == s).count());
+    let some = |kinds: &[[usize; 3]]| faces.iter().any(|f| kinds.contains(&counts(f)));
+    let at =
+        |height: f64| faces.iter().any(|f| input.segment(*f).is_some() && f.iter().any(|&v| input.height(v) == height));
+    let is_open = |s: &&Vec<contour::Point>| s.first() != s.last();
+    let both_ways = |s: &[contour::Point; 2]| segments.iter().filter(|&&t| t == *s || t == [s[1], s[0]]).count();
+    let minus = |f: &[u32; 3]| {
+        f.iter().any(|&v| input.vertices[3 * v as usize..][..3].iter().any(|x| x.to_bits() >> 63 == 1 && *x == 0.0))
+    };
+    let all = [
+        (some(&[[1, 1, 1]]), "one above, one below, one on"),
+        (some(&[[1, 2, 0], [2, 1, 0]]), "split, none on"),
+        (some(&[[1, 0, 2]]), "two on, the third above"),
+        (some(&[[0, 1, 2]]), "two on, the third below"),
+        (some(&[[0, 0, 3]]), "all on"),
+        (some(&[[2, 0, 1], [0, 2, 1]]), "one on, the others on one side"),
+        (at(input.tolerance), "just as high as the tolerance"),
+        (at(-input.tolerance), "just as low"),
+        (at(input.tolerance.next_down()) || at(-input.tolerance.next_down()), "the number before that"),
+        (faces.iter().any(|f| input.segment(*f).is_some() && minus(f)), "a -0 in a face that is cut"),
+        (segments.iter().any(|s| s[0] == s[1]), "a segment of no length"),
+        (segments.iter().any(|s| both_ways(s) > 1), "a segment twice"),
+        (!segments.is_empty() && input.is_closed(), "a closed mesh"),
+        (strokes.iter().filter(is_open).count() > 1, "more than one open stroke"),
+        (strokes.len() > 1 && strokes.iter().all(|s| !is_open(&s)), "more than one closed stroke"),
+        (strokes.iter().any(|s| s.len() > 4), "a stroke of more than four points"),
+    ];
+    all.into_iter().filter(|(is_so, _)| *is_so).map(|(_, what)| what).collect()
+}
+
+#[test]
+fn random_contours_meet_every_case() {
+    let mut random = Random::new(8);
+    let mut seen = BTreeMap::<&str, u32>::new();
+    for _ in 0..20_000 {
+        notable_cut(&contour::make(&mut random)).into_iter().for_each(|what| *seen.entry(what).or_default() += 1);
+    }
+    println!("{seen:?}");
+    assert!(seen.len() == 16 && seen.values().all(|&n| n >= 100), "{seen:?}");
+}
+
+/// Joined by the original's splice, the segments of the rules are drawn as often as they are given, with no pen lift
+/// too many.
+#[test]
+fn every_contour_of_the_rules_is_sound() {
+    let mut random = Random::new(9);
+    let mut accepted = 0;
+    for input in contour::all_small().chain((0..20_000).map(|_| contour::make(&mut random))) {
+        let left = contour::judged(&input);
+        if left.status == 0 {
+            assert!(contour::is_sound(&input, &left), "{input:?}");
+            accepted += 1;
+        }
+    }
+    assert!(accepted > 20_000);
 }
 
 /// The sheet of [1,0,2,1] with 3 vertices, written and read by the rules alone; mode 0 is stored as 1, an empty stroke is not.

@@ -25,10 +25,9 @@ fn large(what: &'static str, call: Call, status: u32) -> Large {
 
 /// Every one of them.
 pub fn all() -> Vec<Large> {
-    [cuts(), adaptive(), simplified(), numbered(), welds(), sections(), drawings(), sheets(), read(), written()]
-        .into_iter()
-        .flatten()
-        .collect()
+    let strokes = [cuts(), adaptive(), simplified(), numbered()];
+    let meshes = [welds(), sections(), contours(), drawings(), sheets(), read(), written()];
+    strokes.into_iter().chain(meshes).flatten().collect()
 }
 
 /// Points on the x axis as one stroke.
@@ -139,6 +138,41 @@ fn sections() -> Vec<Large> {
         meshes::section_of(&vertices, &indices, [[100.3, 60.1, 0.0], [0.3, 0.4, 0.8]], 1e-9, 0)
     };
     vec![large("65,536 faces", of(MOST_FACES), 0), large("one more", of(MOST_FACES + 1), 2)]
+}
+
+/// As many faces around one vertex, which lies above the plane z = 0; the others lie below, and no two at one place.
+fn fan(faces: usize) -> (Vec<f64>, Vec<u32>) {
+    let turn = |i: usize| i as f64 / faces as f64 * std::f64::consts::TAU;
+    let rim = |i: usize| [turn(i).cos(), turn(i).sin(), -1.0 - i as f64 / faces as f64];
+    let vertices = [[0.0, 0.0, 1.0]].into_iter().chain((0..=faces).map(rim)).flatten().collect();
+    (vertices, (0..faces as u32).flat_map(|i| [0, i + 1, i + 2]).collect())
+}
+
+/// As many faces, each with a side on the plane z = 0 and the third corner above it, no two of these points alike; what
+/// the low word of the first one's x takes off its mix that of its y adds (`mix` of crates/path_classes).
+fn one_mix() -> (Vec<f64>, Vec<u32>) {
+    let face = |f: usize| [[f as f64, 2.0, 0.0], [f as f64, 3.0, 0.0], [0.0, 0.0, 1.0]];
+    let mut vertices: Vec<[f64; 3]> = (0..MOST_FACES).flat_map(face).collect();
+    vertices[0] = [0x3FE0_0000_0000_0000, 0x3FE0_0000_9E37_79B1, 0].map(f64::from_bits);
+    vertices[1] = [0x3FE0_0000_C2B2_AE3D, 0x3FE0_0000_0000_0000, 0].map(f64::from_bits);
+    (vertices.concat(), (0..3 * MOST_FACES as u32).collect())
+}
+
+fn contours() -> Vec<Large> {
+    let of = |(vertices, indices): (Vec<f64>, Vec<u32>), plane: [[f64; 3]; 2]| {
+        meshes::contour_of(&vertices, &indices, plane, 1e-9, 0)
+    };
+    let (aslant, flat) = ([[100.3, 60.1, 0.0], [0.3, 0.4, 0.8]], [[0.0; 3], [0.0, 0.0, 1.0]]);
+    let alike = (vec![0.0, 0.0, 1.0, 1.0, 0.0, -1.0, 0.0, 1.0, -1.0], [0, 1, 2].repeat(MOST_FACES));
+    let nowhere = (vec![0.5, 0.5, 1.0, 0.5, 0.5, -1.0, 0.5, 0.5, -0.5], [0, 1, 2].repeat(MOST_FACES));
+    vec![
+        large("65,536 faces", of(sheet_of_faces(MOST_FACES), aslant), 0),
+        large("65,536 faces, all cut, one stroke", of(fan(MOST_FACES), flat), 0),
+        large("65,536 faces, all cut alike", of(alike, flat), 0),
+        large("65,536 faces, all cut in one place", of(nowhere, flat), 0),
+        large("65,536 faces, no two points alike, two with one mix", of(one_mix(), flat), 0),
+        large("one more", of(sheet_of_faces(MOST_FACES + 1), aslant), 2),
+    ]
 }
 
 fn drawings() -> Vec<Large> {

@@ -5,6 +5,7 @@ use crate::call::{Call, Left, handed, status};
 use crate::sound;
 use crate::source::Source;
 use ramikohy::Sight;
+use std::collections::BTreeMap;
 
 /// Corners as vertices and faces.
 pub fn weld(s: &mut Source) -> Call {
@@ -46,6 +47,53 @@ pub fn section_of(vertices: &[f64], indices: &[u32], plane: [[f64; 3]; 2], toler
     let work = move |b: &[Slice]| status(handed!(ramikohy_section, b, [0] [1] (2) (3) {tolerance} [4] [5] (6) (7)));
     Call::new("ramikohy_section", &[1, 2, 3, 4, 6], buffers, work)
         .sound(|call, left| assert_eq!(left.count(call, 0), 2 * left.count(call, 1), "strokes of two"))
+}
+
+/// The outline in which a plane cuts a mesh: across an axis and through vertices, or any.
+pub fn contour(s: &mut Source) -> Call {
+    let (mut vertices, indices) = s.mesh();
+    let tolerance = s.mostly(4, &[1e-9, 1e-6, 0.25, 0.5, 0.0, 1.0, f64::NAN, 5e-324]);
+    let mut plane = [[0.0; 3], [0.0, 0.0, 1.0]];
+    if s.once_in(2) {
+        let mut number = || s.mostly(5, &[0.0, 1.0, -1.0, 0.25, 0.3, f64::NAN, 1048577.0]);
+        plane = [(); 2].map(|()| [(); 3].map(|()| number()));
+    } else {
+        let heights = [0.0, -0.0, 1.0, -1.0, tolerance, -tolerance, 0.3, -0.1];
+        vertices.chunks_exact_mut(3).for_each(|vertex| vertex[2] = s.one_of(&heights));
+    }
+    contour_of(&vertices, &indices, plane, tolerance, s.below(3))
+}
+
+/// The same of a given mesh and plane, with this much more room than is needed.
+pub fn contour_of(vertices: &[f64], indices: &[u32], plane: [[f64; 3]; 2], tolerance: f64, more: usize) -> Call {
+    let faces = indices.len() / 3;
+    let mut buffers = vec![Buffer::input(vertices), Buffer::input(indices)];
+    buffers.extend(plane.map(|p| Buffer::input(&p)));
+    buffers.extend([Buffer::scratch::<u32>(16 * faces, more), Buffer::scratch::<f64>(8 * faces, more)]);
+    buffers.extend([Buffer::room::<f64>(0, 3, 6 * faces, more), Buffer::room::<u32>(1, 1, faces, more)]);
+    buffers.extend([(); 2].map(|()| Buffer::place::<usize>()));
+    let work =
+        move |b: &[Slice]| status(handed!(ramikohy_contour, b, [0] [1] (2) (3) {tolerance} [4] [5] [6] [7] (8) (9)));
+    Call::new("ramikohy_contour", &[1, 2, 3, 4, 5, 6], buffers, work).sound(is_contour)
+}
+
+/// The strokes are of two points or more, of numbers that are finite and not -0, no more segments than faces; and no
+/// pen lift is too many, where ends with the same coordinates could be joined.
+fn is_contour(call: &Call, left: &Left) {
+    let (points, starts) = (left.count(call, 0), left.written(call, 7));
+    let written = &reals(&left.bytes[6])[..3 * points];
+    assert!(written.iter().all(|x| x.is_finite() && x.to_bits() != (-0.0f64).to_bits()), "a number that none is");
+    let mut names: BTreeMap<[u64; 3], u32> = BTreeMap::new();
+    let name = |p: &[f64]| {
+        let next = names.len() as u32;
+        *names.entry([0, 1, 2].map(|k| p[k].to_bits())).or_insert(next)
+    };
+    let numbered: Vec<u32> = written.chunks_exact(3).map(name).collect();
+    let after = sound::split(&numbered, &starts);
+    assert!(after.iter().all(|s| s.len() > 1), "a stroke of one point");
+    assert!(points - starts.len() <= left.bytes[1].len() / 12, "more segments than faces");
+    let segments: Vec<Vec<u32>> = after.iter().flat_map(|s| s.windows(2).map(|w| w.to_vec())).collect();
+    sound::joined(&segments, &after);
 }
 
 /// The edges that a mode keeps, spliced.

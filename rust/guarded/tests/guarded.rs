@@ -3,7 +3,7 @@
 use guarded::buffer::Slice;
 use guarded::call::{Answer, Call};
 use guarded::files::{bytes_of, read_stl_of, write_stl_of};
-use guarded::meshes::draw_of;
+use guarded::meshes::{contour_of, draw_of};
 use guarded::pages::Side;
 use guarded::rows::{self, Row};
 use guarded::source::{Source, Strokes, random_bytes};
@@ -47,6 +47,7 @@ fn every_function_keeps_to_what_it_is_lent() {
     assert_eq!(statuses("ramikohy_simplify"), [0, 1, 2, 4]);
     assert_eq!(statuses("ramikohy_weld"), [0, 1, 4]);
     assert_eq!(statuses("ramikohy_section"), [0, 1, 3, 4]);
+    assert_eq!(statuses("ramikohy_contour"), [0, 1, 3, 4]);
     assert_eq!(statuses("ramikohy_draw"), [0, 1, 3, 4, 7, 10]);
     assert_eq!(statuses("ramikohy_write_sheet"), [0, 1, 2, 3, 4]);
     assert_eq!(statuses("ramikohy_read_sheet"), [0, 9]);
@@ -246,6 +247,25 @@ fn a_wrong_file_is_seen() {
     assert!(is_seen(turned(one_written, 2, 8 * 100 - 1)), "a zero without its sign");
     assert!(is_seen(turned(one_written, 2, 8 * 108)), "another corner");
     assert!(is_seen(turned(one_written, 2, 8 * 133)), "bytes after the face that are not zero");
+}
+
+/// Two faces that share an edge, cut to one stroke of three points.
+fn one_cut() -> Call {
+    let vertices = [0.0, 0.0, -1.0, 0.0, 0.0, 1.0, 1.0, 0.0, -1.0, 0.0, 1.0, -1.0];
+    contour_of(&vertices, &[0, 1, 2, 1, 0, 3], [[0.0; 3], [0.0, 0.0, 1.0]], 1e-9, 1)
+}
+
+/// An outline that is wrong in one bit is seen.
+#[test]
+fn a_wrong_outline_is_seen() {
+    assert!(!is_seen(one_cut()));
+    assert!(is_seen(turned(one_cut, 4, 32 * 20)), "scratch of words is not zero");
+    assert!(is_seen(turned(one_cut, 5, 64 * 9 + 63)), "scratch of numbers is -0");
+    assert!(is_seen(turned(one_cut, 6, 64 * 2 + 63)), "a -0");
+    assert!(is_seen(turned(one_cut, 6, 64 * 9)), "room past what is written changed");
+    assert!(is_seen(turned(one_cut, 7, 0)), "another start");
+    assert!(is_seen(turned(one_cut, 8, 0)), "a point too few");
+    assert!(is_seen(turned(one_cut, 9, 0)), "no stroke");
 }
 
 /// A chop that rewrites the first NaN of its room with the same value, in another pattern: refused, and accepted with that room past

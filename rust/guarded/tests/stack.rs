@@ -13,7 +13,7 @@ fn bound(name: &str) -> usize {
         "ramikohy_simplify" => 400_000,
         "ramikohy_chop_adaptive" => 64 << 10,
         "ramikohy_draw" => 6 << 10,
-        "ramikohy_splice" => 4 << 10,
+        "ramikohy_splice" | "ramikohy_contour" => 4 << 10,
         _ => 2 << 10,
     }
 }

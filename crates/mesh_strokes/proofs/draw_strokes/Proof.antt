@@ -26,8 +26,8 @@ draw-in-requires c κs =
 clear-requires : tie.Need-clear-requires
 clear-requires c κs = search needs
 
-clear-seen-requires : tie.Need-clear-seen-requires
-clear-seen-requires c κs = search needs
+clear-numbers-requires : tie.Need-clear-numbers-requires
+clear-numbers-requires c κs = search needs
 
 same-length : tie.Need-same-length
 same-length c = search needs
@@ -47,7 +47,7 @@ returns-2 c =
     let d = c .before .before .before .before .before .before .before .before .before .before .before .before .before .before .before .before .draw-in in
     strokes-yes (a .vertices .now) (a .indices .now) (a .flips .now) (a .mode) (a .eye) (a .tolerance) (a .scratch .now) (a .seen .now) (a .out-points .now) (a .out-starts .now) _ _ _ _ _ _
     (sym (c .before .before .before .before .before .before .before .before .before .before .before .before .before .before .before .before .before .before .before .before .before .before .ready .ensures) ∙ not-false _ (c .before .before .before .before .before .before .before .before .before .before .before .before .before .before .before .before .before .before .before .before .before .if1 .left))
-    (c .before .before .before .before .before .before .clear .ensures ∙ ap (λ (n : ℕ). replicate n 0) (d .kept .1 .1 .1 .1 .1 .1 .0)) (c .before .before .clear-seen .ensures ∙ ap (λ (n : ℕ). replicate n zero64) (d .kept .1 .1 .1 .1 .1 .1 .1 .0))
+    (c .before .before .before .before .before .before .clear .ensures ∙ ap (λ (n : ℕ). replicate n 0) (d .kept .1 .1 .1 .1 .1 .1 .0)) (c .before .before .clear-numbers .ensures ∙ ap (λ (n : ℕ). replicate n zero64) (d .kept .1 .1 .1 .1 .1 .1 .1 .0))
     (d .ensures)
 
 pub draw-strokes-spec : {M : Type 1} → statement M
@@ -58,7 +58,7 @@ draw-strokes-spec =
     returns
     draw-in-requires
     clear-requires
-    clear-seen-requires
+    clear-numbers-requires
     same-length
     same-length-2
     same-length-3

@@ -4,14 +4,15 @@ use native.Mathlib.Omega.{arith}
 use mathlib.Core.Path.{_≡_, refl}
 use Prim.Native.Nat.{_-_, _≤_}
 use lib.ListN.{length}
+use Rattle.order.specs.Regions.{put}
 use Rattle.path.specs.Strokes.{strokesIn}
-use Rattle.path_splice.proofs.Readings.{Reading, reading, point-room, mark-room, reading-more, read-all}
+use Rattle.path_splice.proofs.Readings.{words-lie, Reading, reading, point-room, mark-room, reading-more, read-all}
 use borrow.Author.Needs.{needs}
 use Rattle.path_splice.proofs.read_out.Statement.{statement}
 use Rattle.path_splice.proofs.read_out.Tie as tie
 
 abbrev Inv-loop : tie.InvT-loop
-Inv-loop points starts order out-points₀ out-starts₀ p₀ q₀ j₀ out-points out-starts p q j = (j ≤ length order) × (length out-points ≡ length out-points₀) × (length out-starts ≡ length out-starts₀) × Reading (strokesIn points starts) order out-points₀ out-starts₀ out-points out-starts p q j
+Inv-loop points starts order out-points₀ out-starts₀ p₀ q₀ j₀ out-points out-starts p q j = (j ≤ length order) × (length out-points ≡ length out-points₀) × (length out-starts ≡ length out-starts₀) × Reading put (strokesIn points starts) order out-points₀ out-starts₀ out-points out-starts p q j
 
 abbrev μ-loop : tie.MeasureT-loop
 μ-loop points starts order out-points₀ out-starts₀ p₀ q₀ j₀ out-points out-starts p q j = length order - j
@@ -19,7 +20,7 @@ abbrev μ-loop : tie.MeasureT-loop
 loop-holds : tie.Need-loop-holds Inv-loop μ-loop
 loop-holds c =
     let z = c .before .before .before .before .before in
-    (omega arith, refl, refl, reading (strokesIn (z .args .points .now) (z .args .starts .now)) (z .args .order .now) (z .args .out-points .now) (z .args .out-starts .now))
+    (omega arith, refl, refl, reading words-lie (strokesIn (z .args .points .now) (z .args .starts .now)) (z .args .order .now) (z .args .out-points .now) (z .args .out-starts .now))
 
 mul-x : tie.Need-mul-x Inv-loop μ-loop
 mul-x c = search needs
@@ -31,15 +32,15 @@ put-mark-requires : tie.Need-put-mark-requires Inv-loop μ-loop
 put-mark-requires c κs =
     let z = c .before .before .before .before .before .before .before .before .before in
     let l = c .before .before .before .loop in
-    let a = mark-room (strokesIn (z .args .points .now) (z .args .starts .now)) (z .args .order .now) (z .args .out-points .now) (z .args .out-starts .now) (l .out-points) (l .out-starts) (l .p) (l .q) (l .j) (l .inv .3) (c .before .before .loop-test .taken) in
-    let b = point-room (strokesIn (z .args .points .now) (z .args .starts .now)) (z .args .order .now) (z .args .out-points .now) (z .args .out-starts .now) (l .out-points) (l .out-starts) (l .p) (l .q) (l .j) (l .inv .3) (c .before .before .loop-test .taken) in
+    let a = mark-room words-lie (strokesIn (z .args .points .now) (z .args .starts .now)) (z .args .order .now) (z .args .out-points .now) (z .args .out-starts .now) (l .out-points) (l .out-starts) (l .p) (l .q) (l .j) (l .inv .3) (c .before .before .loop-test .taken) in
+    let b = point-room words-lie (strokesIn (z .args .points .now) (z .args .starts .now)) (z .args .order .now) (z .args .out-points .now) (z .args .out-starts .now) (l .out-points) (l .out-starts) (l .p) (l .q) (l .j) (l .inv .3) (c .before .before .loop-test .taken) in
     (omega (arith, z .pre .1, l .inv .2), omega (arith, z .pre .1))
 
 read-entry-requires : tie.Need-read-entry-requires Inv-loop μ-loop
 read-entry-requires c κs =
     let z = c .before .before .before .before .before .before .before .before .before .before .before .before .before in
     let l = c .before .before .before .before .before .before .before .loop in
-    let b = point-room (strokesIn (z .args .points .now) (z .args .starts .now)) (z .args .order .now) (z .args .out-points .now) (z .args .out-starts .now) (l .out-points) (l .out-starts) (l .p) (l .q) (l .j) (l .inv .3) (c .before .before .before .before .before .before .loop-test .taken) in
+    let b = point-room words-lie (strokesIn (z .args .points .now) (z .args .starts .now)) (z .args .order .now) (z .args .out-points .now) (z .args .out-starts .now) (l .out-points) (l .out-starts) (l .p) (l .q) (l .j) (l .inv .3) (c .before .before .before .before .before .before .loop-test .taken) in
     (z .pre .0, omega (arith, z .pre .1, l .inv .1))
 
 add-j : tie.Need-add-j Inv-loop μ-loop
@@ -58,7 +59,7 @@ loop-again c =
       omega (arith, t .loop-test .taken),
       search needs,
       search needs,
-      reading-more (strokesIn (a .points .now) (a .starts .now)) (a .order .now) (a .out-points .now) (a .out-starts .now) (l .out-points) (l .out-starts) (l .p) (l .q) (l .j) (l .inv .3) (t .loop-test .taken) _ _ (r .result) (m .result) (r .ensures .0) (r .ensures .1) (m .ensures .0) (m .ensures .1),
+      reading-more words-lie (strokesIn (a .points .now) (a .starts .now)) (a .order .now) (a .out-points .now) (a .out-starts .now) (l .out-points) (l .out-starts) (l .p) (l .q) (l .j) (l .inv .3) (t .loop-test .taken) _ _ (r .result) (m .result) (r .ensures .0) (r .ensures .1) (m .ensures .0) (m .ensures .1),
     )
 
 same-length : tie.Need-same-length Inv-loop μ-loop
@@ -71,7 +72,7 @@ returns : tie.Need-returns Inv-loop μ-loop
 returns c =
     let z = c .before .before .before .before .before .before .before in
     let l = c .before .loop in
-    read-all (strokesIn (z .args .points .now) (z .args .starts .now)) (z .args .order .now) (z .args .out-points .now) (z .args .out-starts .now) (l .out-points) (l .out-starts) (l .p) (l .q) (l .j) (l .inv .3) (omega arith)
+    read-all words-lie (strokesIn (z .args .points .now) (z .args .starts .now)) (z .args .order .now) (z .args .out-points .now) (z .args .out-starts .now) (l .out-points) (l .out-starts) (l .p) (l .q) (l .j) (l .inv .3) (omega arith)
 
 pub read-out-spec : {M : Type 1} → statement M
 read-out-spec =

@@ -49,7 +49,7 @@ returns-2 c =
     let d = c .before .before .before .before .before .before .before .before .before .before .draw-pairs in
     let k = c .before .before .clear in
     let y = sym (c .before .before .before .before .before .before .before .before .before .before .before .before .before .before .before .fits2 .ensures) ∙ not-false _ (c .before .before .before .before .before .before .before .before .before .before .before .before .before .before .if1 .left) in
-    pairs-yes (z .args .s .now) (z .args .out-points .now) (z .args .out-starts .now) (z .args .n) y _ (d .last .0) _ _ _ _ (zeroed (z .args .s .now) (d .last .0) (z .args .n) (pairs-fit _ _ _ _ y .0) (d .kept .0) (d .ensures .rest) (k .last .0) (k .ensures)) (d .ensures)
+    pairs-yes (z .args .s .now) (z .args .out-points .now) (z .args .out-starts .now) (z .args .n) y _ (d .last .0) _ _ _ _ (zeroed (z .args .s .now) (d .last .0) (8 * z .args .n) (pairs-fit _ _ _ _ y .0) (d .kept .0) (d .ensures .rest) (k .last .0) (k .ensures)) (d .ensures)
 
 pub splice-pairs-spec : {M : Type 1} → statement M
 splice-pairs-spec =

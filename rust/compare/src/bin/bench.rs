@@ -16,7 +16,9 @@ fn main() {
     println!(
         "{RUNS} runs. The inputs come from a wavy torus of 65,536 faces; growth is the port's time there over its time"
     );
-    println!("at 16,384 faces, a quarter. A call of the arithmetic is made once for each corner of each face.\n");
+    println!("at 16,384 faces, a quarter. A call of the arithmetic is made once for each corner of each face. The");
+    println!("original has no contour: in its place stands a plain reading of the rules, its segments joined by the");
+    println!("original's splice.\n");
     println!("| call | port, ms | original, ms | port / original | growth |");
     println!("|---|---|---|---|---|");
     let word = std::env::args().nth(1).unwrap_or_default();
@@ -35,7 +37,7 @@ fn main() {
     println!(
         "As many roots as the torus has corners, as many edges for a splice, as many vertices to simplify (best of 5 runs),\n\
          sixteen points a face to cut (best of 5), as many corners for a weld (long ways at many places: best of 3), as many\n\
-         faces for a drawing; growth as above.\n"
+         faces for a drawing and for a contour; growth as above.\n"
     );
     println!("| call | port, ms | original, ms | port / original | growth |");
     println!("|---|---|---|---|---|");
@@ -51,6 +53,7 @@ fn main() {
     for cut in compare::cuts::CUTS.iter().filter(|_| "chop".starts_with(&word)) {
         println!("{}", calls::cut(cut, RUNS));
     }
+    contours(&word);
     println!("\n## Sheets\n");
     println!("The original has none. The drawing of the torus in triangles is written and read; growth as above.\n");
     println!("| call | bytes | port, ms | MB a second | growth |");
@@ -59,6 +62,21 @@ fn main() {
         println!("{}", compare::bench::rate(call, RUNS));
     }
     stl(&word);
+}
+
+/// What is told of contours.
+#[cfg(original)]
+fn contours(word: &str) {
+    println!("\n## Contours\n");
+    println!(
+        "Beside the port's own `section` of the same mesh, and its `splice` of as many strokes as the contour has segments,\n\
+         their ends numbered beforehand. 65,536 faces.\n"
+    );
+    println!("| contour | segments | contour, ms | section, ms | splice, ms | contour / (section + splice) |");
+    println!("|---|---|---|---|---|---|");
+    for outline in calls::OUTLINES.iter().filter(|_| "contour".starts_with(word)) {
+        println!("{}", calls::outline(outline, RUNS));
+    }
 }
 
 /// What is told of STL files.
@@ -94,16 +112,18 @@ const RUNS: usize = 25;
 #[cfg(original)]
 mod calls {
     use compare::bench::{Call, File, Rated, best, best_by_turns};
+    use compare::calls::contour;
     use compare::calls::write_stl::bytes_of;
     use compare::crowded;
     use compare::cuts::Cut;
     use compare::random::Random;
-    use compare::torus::Mesh;
+    use compare::torus::{self, Mesh};
     use original::eps_1e9::{
         matrix::Matrix, mesh, mesh::MeshTexture, path::Paths, plane::Plane, shape::RenderArgs, shape::Shape,
         triangle::Triangle, vector::Vector,
     };
     use ramikohy::lent;
+    use std::collections::HashMap;
     use std::hint::black_box;
 
     pub const CALLS: &[Call] = &[
@@ -122,6 +142,16 @@ mod calls {
         Call { name: "splice of all edges", port: splice_port, original: splice_original },
         Call { name: "weld", port: weld_port, original: weld_original },
         Call { name: "section", port: section_port, original: section_original },
+        Call {
+            name: "contour",
+            port: |mesh, runs| contour_of(mesh, &PLANE, 1e-9, runs),
+            original: |mesh, runs| plain_contour_of(mesh, &PLANE, 1e-9, runs),
+        },
+        Call {
+            name: "contour through many corners",
+            port: |mesh, runs| contour_of(mesh, &FLOOR, 1e-9, runs),
+            original: |mesh, runs| plain_contour_of(mesh, &FLOOR, 1e-9, runs),
+        },
         Call {
             name: "draw, triangles",
             port: |mesh, runs| draw_of(mesh, TRIANGLES, &[], runs),
@@ -321,6 +351,46 @@ mod calls {
             name: "draw, silhouette, no vertex in two faces",
             port: |mesh, runs| draw_of(&mesh.apart(), SILHOUETTE, &[], runs),
             original: |mesh, runs| paths_of(&mesh.apart(), SILHOUETTE, &[], runs),
+        },
+        Call {
+            name: "contour, every face cut, one ring",
+            port: |mesh, runs| contour_of(&mesh.band(1), &FLOOR, 1e-9, runs),
+            original: |mesh, runs| plain_contour_of(&mesh.band(1), &FLOOR, 1e-9, runs),
+        },
+        Call {
+            name: "contour, the same in a mixed order",
+            port: |mesh, runs| contour_of(&mesh.band(7919), &FLOOR, 1e-9, runs),
+            original: |mesh, runs| plain_contour_of(&mesh.band(7919), &FLOOR, 1e-9, runs),
+        },
+        Call {
+            name: "contour, the same, every height subnormal",
+            port: |mesh, runs| contour_of(&tiny(mesh.band(7919)), &FLOOR, 5e-324, runs),
+            original: |mesh, runs| plain_contour_of(&tiny(mesh.band(7919)), &FLOOR, 5e-324, runs),
+        },
+        Call {
+            name: "contour, no two points alike",
+            port: |mesh, runs| contour_of(&mesh.needles(), &FLOOR, 1e-9, runs),
+            original: |mesh, runs| plain_contour_of(&mesh.needles(), &FLOOR, 1e-9, runs),
+        },
+        Call {
+            name: "contour, no two alike, two with one mix",
+            port: |mesh, runs| contour_of(&mesh.one_mix(), &FLOOR, 0.25, runs),
+            original: |mesh, runs| plain_contour_of(&mesh.one_mix(), &FLOOR, 0.25, runs),
+        },
+        Call {
+            name: "contour, all points in one place",
+            port: |mesh, runs| contour_of(&mesh.column(), &FLOOR, 1e-9, runs),
+            original: |mesh, runs| plain_contour_of(&mesh.column(), &FLOOR, 1e-9, runs),
+        },
+        Call {
+            name: "contour, one face over and over",
+            port: |mesh, runs| contour_of(&mesh.equal(), &ABOVE_FLOOR, 1e-9, runs),
+            original: |mesh, runs| plain_contour_of(&mesh.equal(), &ABOVE_FLOOR, 1e-9, runs),
+        },
+        Call {
+            name: "contour, one vertex in every face",
+            port: |mesh, runs| contour_of(&mesh.fan(), &ABOVE_FLOOR, 1e-9, runs),
+            original: |mesh, runs| plain_contour_of(&mesh.fan(), &ABOVE_FLOOR, 1e-9, runs),
         },
     ];
 
@@ -961,11 +1031,89 @@ mod calls {
     /// A slanted plane through the torus.
     const PLANE: ramikohy::Plane = ramikohy::Plane { point: [0.1, 0.2, 0.05], normal: [0.3, 0.9, 0.2] };
 
+    /// The plane z = 0, and one between the first vertices of a screw.
+    const FLOOR: ramikohy::Plane = ramikohy::Plane { point: [0.0; 3], normal: [0.0, 0.0, 1.0] };
+    const ABOVE_FLOOR: ramikohy::Plane = ramikohy::Plane { point: [0.0, 0.0, 0.0005], normal: [0.0, 0.0, 1.0] };
+
+    /// A mesh so small that its heights are subnormal.
+    fn tiny(mesh: Mesh) -> Mesh {
+        Mesh { vertices: mesh.vertices.iter().map(|v| v.map(|x| x * 1e-310)).collect(), ..mesh }
+    }
+
+    fn contour_of(mesh: &Mesh, plane: &ramikohy::Plane, tolerance: f64, runs: usize) -> f64 {
+        let (vertices, indices) = (mesh.vertices.as_flattened(), mesh.faces.as_flattened());
+        let faces = mesh.faces.len();
+        let (mut scratch, mut numbers) = (vec![0; 16 * faces], vec![0.0; 8 * faces]);
+        let (mut points, mut starts) = (vec![0.0; 6 * faces], vec![0; faces]);
+        best(runs, || {
+            let (scratch, numbers) = (&mut scratch[..], &mut numbers[..]);
+            lent::contour(vertices, indices, plane, tolerance, scratch, numbers, &mut points, &mut starts).unwrap();
+            black_box((&mut points, &mut starts));
+        })
+    }
+
+    fn input_of(mesh: &Mesh, plane: &ramikohy::Plane, tolerance: f64) -> contour::Input {
+        let ([a, b, c], [d, e, f]) = (plane.point, plane.normal);
+        let (vertices, indices) = (mesh.vertices.as_flattened(), mesh.faces.as_flattened());
+        contour::of_mesh(vertices, indices, [a, b, c, d, e, f], tolerance)
+    }
+
+    fn plain_contour_of(mesh: &Mesh, plane: &ramikohy::Plane, tolerance: f64, runs: usize) -> f64 {
+        let input = input_of(mesh, plane, tolerance);
+        best(runs, || {
+            black_box(contour::spliced(&black_box(&input).segments()));
+        })
+    }
+
+    /// What is cut, by which plane.
+    pub struct Outline {
+        name: &'static str,
+        mesh: fn(Mesh) -> Mesh,
+        plane: ramikohy::Plane,
+        tolerance: f64,
+    }
+
+    pub const OUTLINES: &[Outline] = &[
+        Outline { name: "the torus", mesh: |torus| torus, plane: PLANE, tolerance: 1e-9 },
+        Outline { name: "through many corners", mesh: |torus| torus, plane: FLOOR, tolerance: 1e-9 },
+        Outline { name: "every face cut, one ring", mesh: |torus| torus.band(1), plane: FLOOR, tolerance: 1e-9 },
+        Outline { name: "the same, mixed", mesh: |torus| torus.band(7919), plane: FLOOR, tolerance: 1e-9 },
+        Outline { name: "no two points alike", mesh: |torus| torus.needles(), plane: FLOOR, tolerance: 1e-9 },
+        Outline { name: "two with one mix", mesh: |torus| torus.one_mix(), plane: FLOOR, tolerance: 0.25 },
+        Outline { name: "all in one place", mesh: |torus| torus.column(), plane: FLOOR, tolerance: 1e-9 },
+        Outline { name: "one face over and over", mesh: |torus| torus.equal(), plane: ABOVE_FLOOR, tolerance: 1e-9 },
+    ];
+
+    /// A line of the table of contours.
+    pub fn outline(cut: &Outline, runs: usize) -> String {
+        let mesh = (cut.mesh)(torus::wavy(256, 128));
+        let strokes = numbered(&input_of(&mesh, &cut.plane, cut.tolerance).segments());
+        let whole = contour_of(&mesh, &cut.plane, cut.tolerance, runs);
+        let parts = [section_of(&mesh, &cut.plane, cut.tolerance, runs), splice_of(&strokes, runs)];
+        let ([section, splice], over) = (parts.map(|s| s * 1e3), whole / (parts[0] + parts[1]));
+        let (name, count, whole) = (cut.name, strokes.len(), whole * 1e3);
+        format!("| {name} | {count} | {whole:.2} | {section:.2} | {splice:.2} | {over:.2} |")
+    }
+
+    /// Segments by the numbers of their points.
+    fn numbered(segments: &[[contour::Point; 2]]) -> Vec<[u32; 2]> {
+        let mut numbers = HashMap::new();
+        let mut number = |point| {
+            let next = numbers.len() as u32;
+            *numbers.entry(point).or_insert(next)
+        };
+        segments.iter().map(|segment| segment.map(&mut number)).collect()
+    }
+
     fn section_port(mesh: &Mesh, runs: usize) -> f64 {
+        section_of(mesh, &PLANE, 1e-9, runs)
+    }
+
+    fn section_of(mesh: &Mesh, plane: &ramikohy::Plane, tolerance: f64, runs: usize) -> f64 {
         let (vertices, indices) = (mesh.vertices.as_flattened(), mesh.faces.as_flattened());
         let (mut points, mut starts) = (vec![0.0; 6 * mesh.faces.len()], vec![0; mesh.faces.len()]);
         best(runs, || {
-            lent::section(vertices, indices, &PLANE, 1e-9, &mut points, &mut starts).unwrap();
+            lent::section(vertices, indices, plane, tolerance, &mut points, &mut starts).unwrap();
             black_box((&mut points, &mut starts));
         })
     }

@@ -127,7 +127,7 @@ pub fn of_mesh(vertices: &[f64], indices: &[u32], flips: &[u32], mode: u32) -> I
 }
 
 /// The indices of every mesh of up to two faces on `n` vertices.
-fn up_to_two_faces(n: u32) -> Vec<Vec<u32>> {
+pub fn up_to_two_faces(n: u32) -> Vec<Vec<u32>> {
     let faces: Vec<Vec<u32>> = (0..n * n * n).map(|k| vec![k / (n * n), k / n % n, k % n]).collect();
     let two = |one: &Vec<u32>| faces.iter().map(|other| [&one[..], other].concat()).collect::<Vec<_>>();
     [vec![vec![]], faces.clone(), faces.iter().flat_map(two).collect()].concat()

@@ -41,6 +41,30 @@ pub fn book(random: &mut Random) -> (Vec<f64>, Vec<u32>) {
     (vertices, (2..2 + pages as u32).flat_map(turned).collect())
 }
 
+/// Meshes of which every edge has an even number of faces: two ends over a ring, two such that share a vertex or an
+/// edge, in any order of faces and of their corners.
+pub fn closed(random: &mut Random) -> (Vec<f64>, Vec<u32>) {
+    let mut count = 4 + random.below(3);
+    let mut faces = double_cone(2..count as u32, [0, 1]);
+    if random.once_in(3) {
+        let (first, last) = (count - random.below(2), count + 2 + random.below(2));
+        faces.extend(double_cone(first as u32..last as u32, [0, last as u32]));
+        count = last + 1;
+    }
+    let mut indices = Vec::new();
+    while !faces.is_empty() {
+        let [a, b, c] = faces.swap_remove(random.below(faces.len()));
+        indices.extend(random.one_of(&[[a, b, c], [b, c, a], [c, a, b], [a, c, b], [c, b, a], [b, a, c]]));
+    }
+    (coordinates(random, count), indices)
+}
+
+/// Two faces from each side of a ring of vertices, one to each end.
+fn double_cone(ring: std::ops::Range<u32>, [top, bottom]: [u32; 2]) -> Vec<[u32; 3]> {
+    let next = |p: u32| if p + 1 == ring.end { ring.start } else { p + 1 };
+    ring.clone().flat_map(|p| [[top, p, next(p)], [bottom, next(p), p]]).collect()
+}
+
 /// 2^-269. A cross product whose computed length is 0 or just not 0 comes of sides about so long.
 const LEAST: f64 = f64::from_bits((1023 - 269) << 52);
 

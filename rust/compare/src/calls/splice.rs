@@ -90,14 +90,18 @@ pub fn is_sound(input: &Input, left: &Left<u32>) -> bool {
 /// The same of strokes that were joined to what an accepted call left.
 pub fn joins(before: &[Vec<u32>], left: &Left<u32>) -> bool {
     let [points, starts] = [left.counts[0], left.counts[1]];
-    let after = split(&left.lent.points[..points], &left.lent.starts[..starts], 1);
-    let odd: Vec<u32> = ends(before).into_iter().filter(|(_, n)| n % 2 == 1).map(|(v, _)| v).collect();
-    let open = ends(&after);
-    pairs(before) == pairs(&after) && open.values().all(|&n| n == 1) && open.keys().copied().eq(odd)
+    joined(before, &split(&left.lent.points[..points], &left.lent.starts[..starts], 1))
+}
+
+/// The same of strokes of any points, before and after.
+pub fn joined<P: Ord + Copy>(before: &[Vec<P>], after: &[Vec<P>]) -> bool {
+    let odd: Vec<P> = ends(before).into_iter().filter(|(_, n)| n % 2 == 1).map(|(v, _)| v).collect();
+    let open = ends(after);
+    pairs(before) == pairs(after) && open.values().all(|&n| n == 1) && open.keys().copied().eq(odd)
 }
 
 /// How often each undirected pair of neighbours is drawn.
-fn pairs(strokes: &[Vec<u32>]) -> BTreeMap<(u32, u32), usize> {
+fn pairs<P: Ord + Copy>(strokes: &[Vec<P>]) -> BTreeMap<(P, P), usize> {
     let mut bag = BTreeMap::new();
     for w in strokes.iter().flat_map(|s| s.windows(2)) {
         *bag.entry((w[0].min(w[1]), w[0].max(w[1]))).or_default() += 1;
@@ -106,7 +110,7 @@ fn pairs(strokes: &[Vec<u32>]) -> BTreeMap<(u32, u32), usize> {
 }
 
 /// How many ends of open strokes each vertex has.
-fn ends(strokes: &[Vec<u32>]) -> BTreeMap<u32, usize> {
+fn ends<P: Ord + Copy>(strokes: &[Vec<P>]) -> BTreeMap<P, usize> {
     let mut bag = BTreeMap::new();
     for s in strokes.iter().filter(|s| s.first() != s.last()) {
         *bag.entry(s[0]).or_default() += 1;

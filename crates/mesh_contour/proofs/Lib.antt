@@ -1,0 +1,4 @@
+pub mod Segments
+pub mod Back
+pub mod Contours
+pub mod Unique

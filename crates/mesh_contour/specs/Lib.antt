@@ -1,0 +1,2 @@
+pub mod Contour
+pub mod Call

@@ -1,0 +1,12 @@
+pub mod Counts
+pub mod Around
+pub mod Steps
+pub mod Faces
+pub mod Zeros
+pub mod Heights
+pub mod Finite
+pub mod Plains
+pub mod Cases
+pub mod Pairing
+pub mod Closed
+pub mod Unique
