@@ -139,7 +139,7 @@ uint32_t ramikohy_contour(const double *vertices, size_t vertices_len, const uin
                           double *out_points, size_t out_points_len, uint32_t *out_starts, size_t out_starts_len,
                           size_t *point_count, size_t *start_count);
 
-/* The edges of a mesh that a mode keeps (1 triangles, 2 polygonal, 3 silhouette, and 0 is 1), as strokes of vertex numbers joined
+/* The edges of a mesh that a mode keeps (1 triangles, 2 polygonal, 3 silhouette, and 0 is 2), as strokes of vertex numbers joined
  * end to end. `flips` has two face numbers a pair. Scratch: 64 words and 4 numbers a face. Output: 6 points and 3 starts a face.
  * RAMIKOHY_ALIKE and RAMIKOHY_NO_LENGTH write the lowest face at fault to `face`, counted from 0; an accepted call and every other refusal
  * leave it as it was. Stack: 6,144 bytes. */
@@ -149,7 +149,7 @@ uint32_t ramikohy_draw(const double *vertices, size_t vertices_len, const uint32
                        uint32_t *out_points, size_t out_points_len, uint32_t *out_starts, size_t out_starts_len,
                        size_t *point_count, size_t *start_count, uint32_t *face);
 
-/* Strokes of vertex numbers as a sheet, of a mode (1 triangles, 2 polygonal, 3 silhouette, and 0 is 1) and so many vertices. An
+/* Strokes of vertex numbers as a sheet, of a mode (1 triangles, 2 polygonal, 3 silhouette, and 0 is 2) and so many vertices. An
  * empty stroke is not written. Output: the sheet's exact length, 24 bytes, and 4 for each stroke and for each point. A sheet holds no
  * coordinates: keep the mesh beside it. Stack: 2,048 bytes. */
 uint32_t ramikohy_write_sheet(uint32_t mode, uint32_t vertices, const uint32_t *numbers, size_t numbers_len,

@@ -41,6 +41,26 @@ fn three_corners_can_have_no_normal() {
     assert_eq!(one_face([[1.0, 1.0, 0.0], [0.0, 0.0, 0.0], [1e-20, 0.0, 0.0]]), Err(no_length));
 }
 
+/// A drawing with 0, where nobody says a mode, is the polygonal one: what it answers and all that it leaves, drawn or refused.
+#[test]
+fn a_mode_that_nobody_says_is_polygonal() {
+    let left = |mode, indices: &[u32]| {
+        let (mut scratch, mut seen, mut points, mut starts) = (vec![7; 130], vec![7.0; 9], vec![9; 14], vec![9; 7]);
+        let (sight, vertices) = (Sight { mode, ..POLYGONAL }, CORNERS.as_flattened());
+        let answer = lent::draw(vertices, indices, &[], &sight, &mut scratch, &mut seen, &mut points, &mut starts)
+            .map(|w| w.points);
+        (answer, scratch, seen, points, starts)
+    };
+    assert_eq!(Mode::default(), Mode::Polygonal);
+    assert_eq!((left(0, &[0, 1, 2, 0, 2, 3]).0, &left(0, &[0, 1, 2, 0, 2, 3]).3[..5]), (Ok(5), &[1, 0, 3, 2, 1][..]));
+    assert_eq!(left(0, &[0, 1, 2, 0, 0, 1]).0, Err(Refusal::Alike { face: 1 }));
+    assert_eq!(left(0, &[0, 1, 4]).0, Err(Refusal::NoLength { face: 0 }));
+    for indices in [&[0, 1, 2, 0, 2, 3][..], &[0, 1, 2, 0, 0, 1], &[0, 1, 4], &[0, 1, 9]] {
+        assert_eq!(left(0, indices), left(2, indices));
+        assert_ne!(left(0, indices).0, Ok(6));
+    }
+}
+
 #[test]
 fn the_lowest_face_decides() {
     let (good, other, line, twice) = ([0, 1, 2], [0, 2, 3], [0, 1, 4], [1, 1, 2]);

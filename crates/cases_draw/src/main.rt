@@ -110,6 +110,32 @@ fn flat(what: &[u8], mode: u32) {
     tell(r, &points[..], &starts[..]);
 }
 
+// Faces 012 and 001, the second of which is flat, where nobody says a mode.
+fn unsaid(what: &[u8], cos_theta: f64) {
+    let vertices = [0.0, 0.0, 0.0, 1.0, 0.0, 0.0, 1.0, 1.0, 0.0];
+    let indices = [0u32, 1, 2, 0, 0, 1];
+    let flips = [0u32; 2];
+    let mut scratch = [7u32; 128];
+    let mut seen = [7.0; 8];
+    let mut points = [0u32; 12];
+    let mut starts = [0u32; 6];
+    text(what);
+    let r = mesh_draw::draw(
+        &vertices[..],
+        &indices[..],
+        &flips[..],
+        0,
+        cos_theta,
+        Vector::new(0.0, 0.0, 5.0),
+        0.000000001,
+        &mut scratch[..],
+        &mut seen[..],
+        &mut points[..],
+        &mut starts[..],
+    );
+    tell(r, &points[..], &starts[..]);
+}
+
 // Faces of these vertices, polygonal, with scratch and room that are lent.
 fn lent(what: &[u8], vertices: &[f64], indices: &[u32], scratch: &mut [u32], points: &mut [u32]) {
     let flips = [0u32; 2];
@@ -313,6 +339,8 @@ fn main() {
     let back = [1u32, 0];
     let above = Vector::new(0.0, 0.0, 5.0);
     square(b"the square, mode not said:", &back[..], 0, 0.0, above);
+    unsaid(b"faces 012 001, mode not said:", 0.0);
+    unsaid(b"with a NaN cosine:", 0.0 / 0.0);
     square(b"the square, triangles:", &back[..], 1, 0.0, above);
     square(b"the square, polygonal:", &back[..], 2, 0.0, above);
     silhouette(

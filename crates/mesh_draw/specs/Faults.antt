@@ -1,5 +1,5 @@
--- What 7 and 10 are held to: together they are given where document 01 gave 7, which stood for every flat face, and no face with two
--- corners alike escapes.
+-- What 7 and 10 are held to: together they are given where one number for every flat face would be, as document 01 has it, of the mode that a
+-- number stands for now; and no face with two corners alike escapes.
 use mathlib.Core.Path.{_≡_}
 use mathlib.Core.Bool.{Bool, false, cond, _&&_}
 use mathlib.Core.List.{List}
@@ -25,7 +25,8 @@ folded n = cond (eqb n noLengthNumber) alikeNumber n
 abbrev pub tested : Bool → Refusal → ℕ → ℕ
 tested holds r next = cond holds next (numberOf r)
 
--- the number that document 01 gives: the last test is whether some face is flat, where the mode needs normals
+-- the number where 7 stands for every flat face: the last test is whether some face is flat, where the mode needs normals. A drawing with 0 was
+-- one in triangles in document 01, and needed none; it is one in polygonal here.
 unfoldable pub numberBefore : List Float → List ℕ → ℕ → Sight → Lengths → ℕ
 numberBefore vs is flips s l =
     tested (shapedOf (length vs) (length is) && paired flips) Shape

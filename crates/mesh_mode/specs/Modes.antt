@@ -22,9 +22,14 @@ abbrev pub modeSaid : Moded → Said Mode
 modeSaid (M.Of m) = accepted (m ∷ [])
 modeSaid (M.Refused r) = refused r
 
--- 1, 2, 3; 0 is not said, and is triangles
+-- the number that a mode number stands for: 0, where nobody says a mode, for polygonal, each other for itself
+abbrev pub meant : ℕ → ℕ
+meant zero = 2
+meant (suc n) = suc n
+
+-- 1, 2, 3
 abbrev pub modeBy : ℕ → Float → Said Mode
-modeBy zero c = accepted (Triangles ∷ [])
+modeBy zero c = refused Number
 modeBy (suc zero) c = accepted (Triangles ∷ [])
 modeBy (suc (suc zero)) c = accepted (Polygonal ∷ [])
 modeBy (suc (suc (suc zero))) c = accepted (Silhouette c ∷ [])
@@ -32,4 +37,4 @@ modeBy (suc (suc (suc (suc n)))) c = refused Number
 
 -- a cosine is anything but NaN, which alone is not equal to itself
 unfoldable pub modeOf : ℕ → Float → Said Mode
-modeOf n c = cond (eq c c) (modeBy n c) (refused Number)
+modeOf n c = cond (eq c c) (modeBy (meant n) c) (refused Number)

@@ -1,7 +1,7 @@
 // The mode of a drawing, and the numbers that stand for one.
 use refusal::Refusal;
 ghost use mathlib.Core.Path.{_≡_};
-ghost use Rattle.mesh_mode.specs.Modes.{needsOf, modeBy, modeOf, modeSaid};
+ghost use Rattle.mesh_mode.specs.Modes.{needsOf, meant as meantBy, modeBy, modeOf, modeSaid};
 
 // What is drawn of a mesh: all edges; those where faces turn; those where what is seen of the mesh ends, with the least cosine
 // at which an edge is no crease.
@@ -43,11 +43,21 @@ pub fn needs_of(mode: Mode) -> Needs
     }
 }
 
-// The mode of a number; 0 is not said.
+// The number that a mode number stands for: 0, where nobody says a mode, for polygonal.
+pub fn meant(number: u32) -> u32
+    ensures { λ r. ⌜ r ≡ meantBy number ⌝ }
+{
+    if number == 0 {
+        return 2;
+    }
+    number
+}
+
+// The mode of a number that is said.
 fn mode_by(number: u32, cos_theta: f64) -> Moded
     ensures { λ r. ⌜ modeSaid r ≡ modeBy number «cos_theta» ⌝ }
 {
-    if number < 2 {
+    if number == 1 {
         return Moded::Of(Mode::Triangles);
     }
     if number == 2 {
@@ -59,12 +69,12 @@ fn mode_by(number: u32, cos_theta: f64) -> Moded
     Moded::Refused(Refusal::Number)
 }
 
-// The same where the cosine is a number, which is tested even where the mode has none.
+// The mode that a number stands for, where the cosine is a number, which is tested even where the mode has none.
 pub fn mode_of(number: u32, cos_theta: f64) -> Moded
     ensures { λ r. ⌜ modeSaid r ≡ modeOf number «cos_theta» ⌝ }
 {
     if cos_theta == cos_theta {
-        return mode_by(number, cos_theta);
+        return mode_by(meant(number), cos_theta);
     }
     Moded::Refused(Refusal::Number)
 }

@@ -1,7 +1,7 @@
 -- A sheet: strokes of vertex numbers as bytes, in words of four bytes, the lowest byte first.
 use mathlib.Core.Bool.{Bool, true, _&&_, cond}
 use mathlib.Core.List.{List, [], _∷_, _++_}
-use Prim.Native.Nat.{ℕ, zero, suc, _+_, _*_}
+use Prim.Native.Nat.{ℕ, _+_, _*_}
 use lib.ListN.{length}
 use lib.Dec.{leb, ltb, eqb}
 use Rattle.refusal.specs.Limits.{mostVertices, mostStrokes, mostPoints}
@@ -9,6 +9,7 @@ use Rattle.bytes.specs.Bytes.{bytesAll, wordFrom}
 use Rattle.path.specs.Strokes.{gather}
 use Rattle.path.specs.Laid.{nonEmpty, joined, startsFrom}
 use Rattle.mesh.specs.Meshes.{allBelow}
+use Rattle.mesh_mode.specs.Modes.{meant}
 
 -- the k-th word of bytes; a byte past the end is 0
 unfoldable pub wordAt : List ℕ → ℕ → ℕ
@@ -84,10 +85,9 @@ numbersIn bs = gather (wordAt bs) (numbersFrom (strokeCount bs)) (pointCount bs)
 unfoldable pub modeGood : ℕ → Bool
 modeGood m = leb m 3 && ltb 0 m
 
--- the one that is stored of a mode number, 0 where a sheet has none; mode 0, not said, is stored as triangles
+-- the one that is stored of a mode number: what it stands for, and 0 where a sheet has none
 unfoldable pub modeWord : ℕ → ℕ
-modeWord zero = 1
-modeWord (suc n) = cond (modeGood (suc n)) (suc n) 0
+modeWord n = cond (modeGood (meant n)) (meant n) 0
 
 -- vertices, strokes and points within their limits
 unfoldable pub countsGood : ℕ → ℕ → ℕ → Bool

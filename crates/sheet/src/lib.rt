@@ -2,6 +2,7 @@
 // numbers that a sheet has, and the limits of counts.
 use bytes::put_word_from;
 use bytes::word_from;
+use mesh_mode::meant;
 use refusal::MOST_POINTS;
 use refusal::MOST_STROKES;
 use refusal::MOST_VERTICES;
@@ -63,15 +64,13 @@ pub fn mode_good(mode: u32) -> bool
     0 < mode
 }
 
-// The number that a sheet stores of a mode number, 0 where it has none; mode 0, not said, is stored as triangles.
+// The number that a sheet stores of a mode number: what it stands for, and 0 where a sheet has none.
 pub fn mode_word(mode: u32) -> u32
     ensures { λ r. ⌜ r ≡ modeWord mode ⌝ }
 {
-    if mode == 0 {
-        return 1;
-    }
-    if mode_good(mode) {
-        return mode;
+    let m = meant(mode);
+    if mode_good(m) {
+        return m;
     }
     0
 }

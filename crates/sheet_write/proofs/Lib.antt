@@ -3,3 +3,4 @@ pub mod Calls
 pub mod Unique
 pub mod Written
 pub mod Cases
+pub mod Unsaid

@@ -1,4 +1,4 @@
--- The paper's proved case of a sheet, as bytes.
+-- The paper's proved case of a sheet, and that of request 5, as bytes.
 use mathlib.Core.Path.{_≡_}
 use mathlib.Core.List.{List, [], _∷_}
 use Prim.Native.Nat.{ℕ}
@@ -20,10 +20,16 @@ faceSheet =
     1 ∷ 0 ∷ 0 ∷ 0 ∷ 3 ∷ 0 ∷ 0 ∷ 0 ∷ 1 ∷ 0 ∷ 0 ∷ 0 ∷ 4 ∷ 0 ∷ 0 ∷ 0 ∷ 24 ∷ 0 ∷ 0 ∷ 0 ∷ 28 ∷ 0 ∷ 0 ∷ 0
     ∷ 0 ∷ 0 ∷ 0 ∷ 0 ∷ 1 ∷ 0 ∷ 0 ∷ 0 ∷ 0 ∷ 0 ∷ 0 ∷ 0 ∷ 2 ∷ 0 ∷ 0 ∷ 0 ∷ 1 ∷ 0 ∷ 0 ∷ 0 ∷ []
 
--- face 0 1 2 in triangles is [1,0,2,1], by the mode's number and by 0, and with empty strokes about it
+-- the header 2, 4, 1, 5, 24, 28; the start 0; and 1 0 3 2 1
+abbrev pub squareSheet : List ℕ
+squareSheet =
+    2 ∷ 0 ∷ 0 ∷ 0 ∷ 4 ∷ 0 ∷ 0 ∷ 0 ∷ 1 ∷ 0 ∷ 0 ∷ 0 ∷ 5 ∷ 0 ∷ 0 ∷ 0 ∷ 24 ∷ 0 ∷ 0 ∷ 0 ∷ 28 ∷ 0 ∷ 0 ∷ 0
+    ∷ 0 ∷ 0 ∷ 0 ∷ 0 ∷ 1 ∷ 0 ∷ 0 ∷ 0 ∷ 0 ∷ 0 ∷ 0 ∷ 0 ∷ 3 ∷ 0 ∷ 0 ∷ 0 ∷ 2 ∷ 0 ∷ 0 ∷ 0 ∷ 1 ∷ 0 ∷ 0 ∷ 0 ∷ []
+
+-- face 0 1 2 in triangles is [1,0,2,1], and with empty strokes about it; the square in polygonal, which 0 stands for
 unfoldable pub paper : List Case
 paper =
     writes 1 3 (1 ∷ 0 ∷ 2 ∷ 1 ∷ []) (0 ∷ []) faceSheet
-    ∷ writes 0 3 (1 ∷ 0 ∷ 2 ∷ 1 ∷ []) (0 ∷ []) faceSheet
+    ∷ writes 0 4 (1 ∷ 0 ∷ 3 ∷ 2 ∷ 1 ∷ []) (0 ∷ []) squareSheet
     ∷ writes 1 3 (1 ∷ 0 ∷ 2 ∷ 1 ∷ []) (0 ∷ 0 ∷ 4 ∷ []) faceSheet
     ∷ []

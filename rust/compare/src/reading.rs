@@ -117,6 +117,11 @@ fn mesh(vertices: &[f64], indices: &[u32], pairs: bool) -> u32 {
     ])
 }
 
+/// The number that a mode number stands for: 0, where nobody says a mode, for polygonal.
+pub fn meant(mode: u32) -> u32 {
+    if mode == 0 { 2 } else { mode }
+}
+
 /// The numbers beside the mesh of a drawing, all tested whatever the mode.
 pub struct View {
     pub mode: u32,

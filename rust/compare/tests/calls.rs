@@ -109,7 +109,7 @@ fn square(mode: u32, cos_theta: f64, eye: [f64; 3], flips: &[u32]) -> Vec<u32> {
 fn drawings_of_the_rules() {
     let (triangles, polygonal) = ([0, 2, 3, 0, 1, 2], [1, 0, 3, 2, 1]);
     let above = [0.0, 0.0, 5.0];
-    assert_eq!(square(0, 0.0, above, &[]), triangles);
+    assert_eq!(square(0, 0.0, above, &[]), polygonal);
     assert_eq!(square(1, 0.0, above, &[]), triangles);
     assert_eq!(square(2, 0.0, above, &[]), polygonal);
     assert_eq!(square(3, 0.0, above, &[]), polygonal);
@@ -139,6 +139,8 @@ fn faces_of_the_rules() {
     assert_eq!(written(&faces(&vertices, &[[0, 1, 2]], 1), 1), (vec![1, 0, 2, 1], vec![0]));
     let twice = [1, 2, 3].map(|mode| faces(&vertices, &[[0, 0, 1]], mode));
     assert_eq!(twice.map(|left| (left.status, left.lent.face)), [(0, Some(99)), (7, Some(0)), (7, Some(0))]);
+    let unsaid = faces(&vertices, &[[0, 1, 2], [0, 0, 1]], 0);
+    assert_eq!((unsaid.status, unsaid.lent.face), (7, Some(1)));
 }
 
 /// The lowest flat face and its kind, by the original's vectors; that the original dies of each is asked by the judge.
@@ -278,7 +280,7 @@ fn random_inputs_meet_every_refusal_that_they_can() {
 fn notable(input: &draw::Input) -> Vec<&'static str> {
     let left = draw::judged(input);
     let tiny = input.vertices.iter().any(|&x| x != 0.0 && x.abs() < 1e-80);
-    if left.status == 0 && input.mode >= 2 && tiny {
+    if left.status == 0 && input.mode != 1 && tiny {
         return vec!["sides about as short as can be, none flat"];
     }
     let (true, Some(at)) = ([7, 10].contains(&left.status), left.lent.face) else { return vec![] };
@@ -378,17 +380,21 @@ fn every_contour_of_the_rules_is_sound() {
     assert!(accepted > 20_000);
 }
 
-/// The sheet of [1,0,2,1] with 3 vertices, written and read by the rules alone; mode 0 is stored as 1, an empty stroke is not.
+/// The sheet of [1,0,2,1] with 3 vertices, written and read by the rules alone; mode 0 is stored as 2, an empty stroke is not.
 #[test]
 fn the_sheet_of_the_rules() {
     let words = [1, 3, 1, 4, 24, 28, 0, 1, 0, 2, 1u32];
     let bytes: Vec<u8> = words.iter().flat_map(|word| word.to_le_bytes()).collect();
-    for (mode, starts) in [(1, vec![0]), (0, vec![0]), (1, vec![0, 0, 4])] {
+    for (mode, starts) in [(1, vec![0]), (1, vec![0, 0, 4])] {
         let lent = write_sheet::lent(vec![9; 44]);
         let left =
             write_sheet::judged(&write_sheet::Input { mode, vertices: 3, numbers: vec![1, 0, 2, 1], starts, lent });
         assert_eq!((left.status, left.counts, left.lent.points), (0, vec![44], bytes.clone()));
     }
+    let (numbers, lent) = (vec![1, 0, 3, 2, 1], write_sheet::lent(vec![9; 48]));
+    let left = write_sheet::judged(&write_sheet::Input { mode: 0, vertices: 4, numbers, starts: vec![0], lent });
+    let words = [2, 4, 1, 5, 24, 28, 0, 1, 0, 3, 2, 1u32];
+    assert_eq!(left.lent.points, words.iter().flat_map(|word| word.to_le_bytes()).collect::<Vec<u8>>());
     let left = read_sheet::judged(&read_sheet::Input { bytes, lent: plenty(5) });
     assert_eq!(left.counts, [4, 1, 1, 3]);
     assert_eq!((&left.lent.points[..4], left.lent.starts[0]), (&[1, 0, 2, 1][..], 0));

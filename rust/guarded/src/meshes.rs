@@ -154,7 +154,7 @@ fn is_drawing(call: &Call, left: &Left, mode: u32) {
     let sides: Vec<Vec<u32>> = faces.chunks_exact(3).map(|f| vec![f[0], f[1], f[2], f[0]]).collect();
     let sides = sound::pairs(&sides);
     assert!(drawn.iter().all(|(pair, n)| *n == 1 && sides.contains_key(pair)), "a pair that is no side, or twice");
-    assert!(mode > 1 || drawn.len() == sides.len(), "a side is not drawn");
+    assert!(mode != 1 || drawn.len() == sides.len(), "a side is not drawn");
     let kept: Vec<Vec<u32>> = drawn.keys().map(|&(a, b)| vec![a, b]).collect();
     sound::joined(&kept, &after);
 }

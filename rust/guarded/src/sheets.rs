@@ -22,7 +22,7 @@ pub fn write_sheet_of(strokes: &Strokes<u32>, mode: u32, vertices: u32, room: us
     let sound = move |call: &Call, left: &Left| {
         let (numbers, starts) = (words(&left.bytes[0]), words(&left.bytes[1]));
         let sheet = ramikohy::read_sheet(&left.bytes[2][..left.count(call, 0)]).expect("what is written is a sheet");
-        assert_eq!((sheet.mode, sheet.vertices), (mode.max(1), vertices), "the header");
+        assert_eq!((sheet.mode, sheet.vertices), (if mode == 0 { 2 } else { mode }, vertices), "the header");
         let written = ramikohy::strokes(&numbers, &starts).filter(|s| !s.is_empty());
         assert!(sheet.strokes.iter().eq(written), "what is written reads back");
     };

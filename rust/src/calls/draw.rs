@@ -3,13 +3,13 @@
 use super::{Wrote, first};
 use crate::{Mesh, Refusal, Strokes, c};
 
-/// Which edges a drawing keeps.
+/// Which edges a drawing keeps. Polygonal is the mode where nobody says one.
 #[derive(Debug, Clone, Copy, PartialEq, Default)]
 pub enum Mode {
     /// All of them.
-    #[default]
     Triangles,
     /// Those of one face alone, and those where faces meet at an angle.
+    #[default]
     Polygonal,
     /// Those where the mesh turns away from the eye, those that two faces do not share, and, if its number is above 0, those
     /// whose faces' cosine is not above it.
@@ -38,6 +38,7 @@ impl Mode {
 /// The numbers beside the mesh of a drawing, as the archive takes them: all are tested, whatever the mode uses.
 #[derive(Debug, Clone, Copy, PartialEq)]
 pub struct Sight {
+    /// The mode's number, [`Mode::number`]; 0, where nobody says one, stands for polygonal.
     pub mode: u32,
     pub cos_theta: f64,
     pub eye: [f64; 3],
@@ -57,6 +58,7 @@ pub struct Sight {
 /// let above = [0.0, 0.0, 5.0];
 /// assert_eq!(points(Mode::Triangles, above, &[]), triangles);
 /// assert_eq!(points(Mode::Polygonal, above, &[]), polygonal);
+/// assert_eq!(points(Mode::default(), above, &[]), polygonal);
 /// assert_eq!(points(Mode::Silhouette(0.0), above, &[]), polygonal);
 /// assert_eq!(points(Mode::Silhouette(0.0), above, &[[0, 1]]), triangles);
 /// assert_eq!(points(Mode::Silhouette(0.0), above, &[[1, 0]]), polygonal);

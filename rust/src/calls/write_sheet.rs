@@ -3,7 +3,7 @@
 use super::first;
 use crate::{Refusal, Strokes, c};
 
-/// The sheet of strokes of vertex numbers, of a mode's number (0 is stored as 1, which it stands for) and so many vertices.
+/// The sheet of strokes of vertex numbers, of a mode's number (0 is stored as 2, which it stands for) and so many vertices.
 ///
 /// ```
 /// use ramikohy::{Refusal, Strokes, write_sheet};
@@ -12,7 +12,7 @@ use crate::{Refusal, Strokes, c};
 /// let sheet = write_sheet(1, 3, &strokes).unwrap();
 /// let words: Vec<u32> = sheet.chunks(4).map(|b| u32::from_le_bytes(b.try_into().unwrap())).collect();
 /// assert_eq!(words, [1, 3, 1, 4, 24, 28, 0, 1, 0, 2, 1]);
-/// assert_eq!(write_sheet(0, 3, &strokes).unwrap(), sheet);
+/// assert_eq!(write_sheet(0, 3, &strokes).unwrap()[0], 2);
 /// assert_eq!(write_sheet(4, 3, &strokes), Err(Refusal::Number));
 /// assert_eq!(write_sheet(1, 2, &strokes), Err(Refusal::Vertex));
 /// ```

@@ -147,10 +147,10 @@ pub fn all_small() -> impl Iterator<Item = Input> {
 pub fn all_flat() -> impl Iterator<Item = Input> {
     let vertices = [0.0, 0.0, 0.0, -0.0, 0.0, -0.0, 1.0, 0.0, 0.0, 2.0, 0.0, 0.0, 0.0, 1.0, 0.0];
     let lists = up_to_two_faces(5);
-    (1..4).flat_map(move |mode| lists.clone().into_iter().map(move |list| of_mesh(&vertices, &list, &[], mode)))
+    (0..4).flat_map(move |mode| lists.clone().into_iter().map(move |list| of_mesh(&vertices, &list, &[], mode)))
 }
 
-/// Large meshes in each mode: the torus with the most faces that a call takes and with one more, its faces apart (the most vertices),
+/// Large meshes in modes 1, 2 and 3: the torus with the most faces that a call takes and with one more, its faces apart (the most vertices),
 /// a fan around one vertex, one face over and over, every edge with many faces; one vertex more than a call takes; and the torus with
 /// flat faces of either kind, the last face the only one or the second of two.
 fn large() -> impl Iterator<Item = Input> {
@@ -219,7 +219,7 @@ pub fn judged(input: &Input) -> Left<u32> {
     let Input { vertices, indices, flips, lent, .. } = input;
     let view = View { mode: input.mode, cos_theta: input.cos_theta, eye: input.eye, tolerance: input.tolerance };
     let lengths = [lent.scratch.len(), lent.numbers.len(), lent.points.len(), lent.starts.len()];
-    let needs_normals = input.mode >= 2;
+    let needs_normals = reading::meant(input.mode) >= 2;
     match reading::draw(vertices, indices, flips, &view, lengths) {
         0 => match flats(input).next().filter(|_| needs_normals) {
             Some((face, status)) => {
@@ -259,8 +259,8 @@ fn drawn(input: &Input) -> Vec<Vec<u32>> {
         ($original:ident) => {{
             use original::$original::{matrix::Matrix, mesh::Mesh, mesh::MeshTexture, shape::*, vector::Vector};
             let vector = |p: &[f64]| Vector::new(p[0], p[1], p[2]);
-            let texture = match input.mode {
-                0 | 1 => MeshTexture::Triangles,
+            let texture = match reading::meant(input.mode) {
+                1 => MeshTexture::Triangles,
                 2 => MeshTexture::Polygonal,
                 _ => MeshTexture::Silhouette(input.cos_theta),
             };
@@ -309,13 +309,13 @@ fn keeper(input: &Input) -> impl Fn(&[usize]) -> bool {
     let normal = |f: &[u32]| at(f[1]).sub(at(f[0])).cross(at(f[2]).sub(at(f[0]))).normalize().normalize();
     let eye = Vector::new(input.eye[0], input.eye[1], input.eye[2]);
     let seen = |f: &[u32]| (normal(f), normal(f).dot(eye.sub(at(f[0]))));
-    let needs = input.mode >= 2;
+    let needs = reading::meant(input.mode) >= 2;
     let faces: Vec<(Vector, f64)> = input.indices.chunks_exact(3).filter(|_| needs).map(seen).collect();
     let flips: HashSet<(usize, usize)> =
         input.flips.chunks_exact(2).map(|pair| (pair[0] as usize, pair[1] as usize)).collect();
-    let (mode, cos_theta, tolerance) = (input.mode, input.cos_theta, input.tolerance);
+    let (mode, cos_theta, tolerance) = (reading::meant(input.mode), input.cos_theta, input.tolerance);
     move |group| match (mode, group) {
-        (0 | 1, _) | (2, [_]) => true,
+        (1, _) | (2, [_]) => true,
         (2, [first, later @ ..]) => later.iter().any(|&f| faces[*first].0.dot(faces[f].0).abs() < 1.0 - tolerance),
         (_, &[a, b]) => {
             let ((n1, dot1), (n2, dot2)) = (faces[a], faces[b]);

@@ -102,7 +102,7 @@ pub fn judged(input: &Input) -> Left<u8> {
         return lent.refused(status);
     }
     let starts = reading::non_empty(starts, numbers.len());
-    let bytes = bytes_of(&Sheet { mode: (*mode).max(1), vertices: *vertices, starts, numbers: numbers.clone() });
+    let bytes = bytes_of(&Sheet { mode: reading::meant(*mode), vertices: *vertices, starts, numbers: numbers.clone() });
     let mut left = Left { status: 0, counts: vec![bytes.len()], lent: lent.clone() };
     left.lent.points[..bytes.len()].copy_from_slice(&bytes);
     left
@@ -115,7 +115,7 @@ fn port(input: &Input) -> Left<u8> {
     let answer = ramikohy::lent::write_sheet(*mode, *vertices, numbers, starts, &mut lent.points);
     if let Ok(count) = answer {
         let back = ramikohy::read_sheet(&lent.points[..count]).unwrap();
-        assert_eq!((back.mode, back.vertices, back.strokes.points()), ((*mode).max(1), *vertices, &numbers[..]));
+        assert_eq!((back.mode, back.vertices, back.strokes.points()), (reading::meant(*mode), *vertices, &numbers[..]));
         assert_eq!(back.strokes.starts(), reading::non_empty(starts, numbers.len()));
     }
     super::left(answer.map(|count| [count]), lent)
