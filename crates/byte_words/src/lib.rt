@@ -1,4 +1,6 @@
 // Words in bytes, the lowest byte first, from any place on. What lies past the end reads as 0, and nothing is stored there.
+#![tactic(auto)]
+
 ghost use Rattle.std.specs.Prelude.{◌≡◌, ◌+◌, ◌*◌, ◌<◌, length, get_or, set};
 ghost use Rattle.std.proofs.lemmas.List.Edits.{sets};
 ghost use Rattle.byte_words.specs.Bytes.{bytes_of, word_from};

@@ -7,7 +7,7 @@ use refusal::{MOST_FACES, MOST_VERTICES};
 use vector::Vector;
 
 // The three corners of a face.
-#[derive(Drop)]
+#[derive(Clone, Copy)]
 pub struct Triangle {
     pub v1: Vector,
     pub v2: Vector,

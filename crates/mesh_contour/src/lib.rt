@@ -17,7 +17,7 @@ use refusal::{Refusal, Verdict};
 use vector::Vector;
 
 // What a contour answers: how many points and starts were written, or the refusal.
-#[derive(Drop)]
+#[derive(Clone, Copy)]
 pub enum Contoured {
     Wrote { points: usize, starts: usize },
     Refused(Refusal),

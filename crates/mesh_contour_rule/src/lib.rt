@@ -7,7 +7,7 @@ use mesh_section::Plane;
 use vector::Vector;
 
 // Where a vertex lies: above the plane, below it, or on it.
-#[derive(Drop)]
+#[derive(Clone, Copy)]
 pub enum Side {
     Above,
     Below,
@@ -15,7 +15,7 @@ pub enum Side {
 }
 
 // A corner of a face: the number of its vertex, where that lies, how high over the plane, and so on which side.
-#[derive(Drop)]
+#[derive(Clone, Copy)]
 pub struct Corner {
     pub vertex: u32,
     pub at: Vector,
@@ -24,7 +24,7 @@ pub struct Corner {
 }
 
 // The two points of a face's segment, in the order met going round, if it gives one.
-#[derive(Drop)]
+#[derive(Clone, Copy)]
 pub enum Cut {
     Of(Vector, Vector),
     Nothing,

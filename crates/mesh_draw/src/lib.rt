@@ -14,7 +14,7 @@ use refusal::{Refusal, Verdict};
 use vector::Vector;
 
 // What a drawing answers: how many points and starts were written, or the refusal.
-#[derive(Drop)]
+#[derive(Clone, Copy)]
 pub enum Drawing {
     Wrote { points: usize, starts: usize },
     Refused(Refusal),

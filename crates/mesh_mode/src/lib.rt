@@ -6,7 +6,7 @@ use refusal::Refusal;
 
 // What is drawn of a mesh: all edges; those where faces turn; those where what is seen of the mesh ends, with the least cosine
 // at which an edge is no crease.
-#[derive(Drop)]
+#[derive(Clone, Copy)]
 pub enum Mode {
     Triangles,
     Polygonal,
@@ -14,14 +14,14 @@ pub enum Mode {
 }
 
 // What a mode needs of a mesh: normals, so that no face may be flat; the list of flips.
-#[derive(Drop)]
+#[derive(Clone, Copy)]
 pub struct Needs {
     pub normals: bool,
     pub flips: bool,
 }
 
 // A mode, or the refusal.
-#[derive(Drop)]
+#[derive(Clone, Copy)]
 pub enum Moded {
     Of(Mode),
     Refused(Refusal),

@@ -15,28 +15,28 @@ use refusal::{Refusal, Verdict};
 use vector::Vector;
 
 // What a section answers: how many points and starts were written, or the refusal.
-#[derive(Drop)]
+#[derive(Clone, Copy)]
 pub enum Sectioned {
     Wrote { points: usize, starts: usize },
     Refused(Refusal),
 }
 
 // A plane by one of its points and its normal.
-#[derive(Drop)]
+#[derive(Clone, Copy)]
 pub struct Plane {
     pub point: Vector,
     pub normal: Vector,
 }
 
 // Where a segment is hit, if it is.
-#[derive(Drop)]
+#[derive(Clone, Copy)]
 enum Hit {
     At(Vector),
     Nothing,
 }
 
 // The two points of a face's section, if it has one.
-#[derive(Drop)]
+#[derive(Clone, Copy)]
 enum Cut {
     Of(Vector, Vector),
     Nothing,

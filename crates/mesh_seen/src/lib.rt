@@ -12,7 +12,7 @@ use refusal::{Refusal, Verdict};
 use vector::Vector;
 
 // The normal of a face; or none, since two corners compare equal; or none of three different corners.
-#[derive(Drop)]
+#[derive(Clone, Copy)]
 pub enum FaceNormal {
     Of(Vector),
     Alike,

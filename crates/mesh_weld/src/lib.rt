@@ -17,28 +17,28 @@ use vector::Vector;
 use vector::number::{Whole, floor};
 
 // The number of a vertex, or none.
-#[derive(Drop)]
+#[derive(Clone, Copy)]
 pub enum Found {
     At(usize),
     Nothing,
 }
 
 // What welding answers: how many vertices and indices were written, or the refusal.
-#[derive(Drop)]
+#[derive(Clone, Copy)]
 pub enum Welded {
     Wrote { vertices: usize, indices: usize },
     Refused(Refusal),
 }
 
 // The source's VertexMerger, whose maps are one table in scratch: how many buckets the table has, and how many vertices it holds.
-#[derive(Drop)]
+#[derive(Clone, Copy)]
 struct VertexMerger {
     buckets: usize,
     count: usize,
 }
 
 // The cell of a point, each number counted up from one below all cells.
-#[derive(Drop)]
+#[derive(Clone, Copy)]
 struct Cube {
     x: u64,
     y: u64,
@@ -46,14 +46,14 @@ struct Cube {
 }
 
 // A way that is walked: what the slot holds that it has come to, and the bits of its coarse cell that are left.
-#[derive(Drop)]
+#[derive(Clone, Copy)]
 struct Way {
     next: usize,
     q: Cube,
 }
 
 // The ways of the eight coarse cells in which the 27 cells about a corner lie. Walked side by side, they wait for memory together.
-#[derive(Drop)]
+#[derive(Clone, Copy)]
 struct Ways {
     a: Way,
     b: Way,

@@ -1,4 +1,6 @@
 // Strokes: a lent list of elements and a lent table of starts, and what the calls on points share.
+#![tactic(auto)]
+
 ghost use Rattle.std.specs.Prelude.{◌≡◌, cond, ◌+◌, ◌*◌, length, get_or, set, replicate};
 ghost use Rattle.std.specs.Float.{nan};
 ghost use Rattle.vector.specs.Lengths.{zero64};
@@ -11,7 +13,7 @@ use refusal::{MOST_POINTS, MOST_STROKES};
 use vector::Vector;
 
 // Where the next point and the next start go.
-#[derive(Drop)]
+#[derive(Clone, Copy)]
 pub struct Place {
     pub points: usize,
     pub starts: usize,

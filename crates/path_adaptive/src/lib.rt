@@ -19,7 +19,7 @@ use vector::Vector;
 use vector::matrix::Matrix;
 
 // What chop_adaptive wrote and how many halvings it made, or why it was refused.
-#[derive(Drop)]
+#[derive(Clone, Copy)]
 pub enum Adapted {
     Wrote {
         points: usize,
@@ -30,7 +30,7 @@ pub enum Adapted {
 }
 
 // The screen, and when a span is short: the square of a step, and the tolerance.
-#[derive(Drop)]
+#[derive(Clone, Copy)]
 struct View {
     matrix: Matrix,
     width: f64,
@@ -40,14 +40,14 @@ struct View {
 }
 
 // A point with its place on the screen.
-#[derive(Drop)]
+#[derive(Clone, Copy)]
 struct Shown {
     here: Vector,
     seen: Vector,
 }
 
 // The room for points and starts that is left, or the refusal that was met first.
-#[derive(Drop)]
+#[derive(Clone, Copy)]
 enum Tally {
     Left(usize, usize),
     Met(Refusal),

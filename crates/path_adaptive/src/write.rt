@@ -14,14 +14,14 @@ use path::{Place, end_of, point_at, put_number, put_point};
 use vector::Vector;
 
 // Where the next point goes, and how many halvings were made so far.
-#[derive(Drop)]
+#[derive(Clone, Copy)]
 struct Mark {
     points: usize,
     halvings: usize,
 }
 
 // Where the next point and the next start go, and how many halvings were made so far.
-#[derive(Drop)]
+#[derive(Clone, Copy)]
 pub(crate) struct Made {
     pub(crate) place: Place,
     pub(crate) halvings: usize,

@@ -22,7 +22,7 @@ use vector::Vector;
 use vector::number::{root_exceeds, root_or_nan};
 
 // What a chop wrote, or why it was refused.
-#[derive(Drop)]
+#[derive(Clone, Copy)]
 pub enum Chopped {
     Wrote { points: usize, starts: usize },
     Refused(Refusal),

@@ -6,7 +6,7 @@ ghost use Rattle.path_reader.specs.Reading.{least, first_at, Own, left_at, strok
 use path::end_of;
 
 // The lent points and starts, and the number of the stroke that comes next.
-#[derive(Drop)]
+#[derive(Clone, Copy)]
 pub struct Reader<'a> {
     pub points: &'a [u32],
     pub starts: &'a [u32],

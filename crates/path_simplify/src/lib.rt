@@ -21,7 +21,7 @@ use vector::Vector;
 use vector::number::{root_above, root_exceeds};
 
 // What simplify wrote and how many distances it measured, or why it was refused.
-#[derive(Drop)]
+#[derive(Clone, Copy)]
 pub enum Simplified {
     Wrote {
         points: usize,
@@ -35,14 +35,14 @@ pub enum Simplified {
 const NOTES: usize = MOST_TO_SIMPLIFY + 2;
 
 // Where the next point goes, and how many distances were measured.
-#[derive(Drop)]
+#[derive(Clone, Copy)]
 struct Kept {
     points: usize,
     distances: usize,
 }
 
 // Where the next point and the next start go, and how many distances were measured.
-#[derive(Drop)]
+#[derive(Clone, Copy)]
 struct Progress {
     points: usize,
     starts: usize,
@@ -50,7 +50,7 @@ struct Progress {
 }
 
 // The farthest point of a scan so far: its place, and the square of how far it is.
-#[derive(Drop)]
+#[derive(Clone, Copy)]
 struct Best {
     at: usize,
     square: f64,
@@ -59,7 +59,7 @@ struct Best {
 // The last three points of a scan whose squares were above all before them, the latest first. Where the root of the latest is
 // level with an earlier one's, that one is the farthest; it is one of these, since four squares, each below the next, never have
 // one root.
-#[derive(Drop)]
+#[derive(Clone, Copy)]
 struct Records {
     first: Best,
     second: Best,

@@ -17,14 +17,14 @@ use path_splice_rule::Endpoint;
 use refusal::{MOST_STROKES, Refusal, Verdict};
 
 // What a splice answers: how many points and starts were written, or why none were.
-#[derive(Drop)]
+#[derive(Clone, Copy)]
 pub enum Spliced {
     Wrote { points: usize, starts: usize },
     Refused(Refusal),
 }
 
 // Where the points of a stroke lie: from a place up to another.
-#[derive(Drop)]
+#[derive(Clone, Copy)]
 struct Span {
     from: usize,
     to: usize,

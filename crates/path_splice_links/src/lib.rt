@@ -24,7 +24,7 @@ pub const TODO: usize = 6;
 pub const WORDS: usize = 7;
 
 // What an end is linked with: another end, or none.
-#[derive(Drop)]
+#[derive(Clone, Copy)]
 enum Link {
     To(Endpoint),
     Free,

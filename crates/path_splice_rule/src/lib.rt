@@ -3,7 +3,7 @@ ghost use Rattle.std.specs.Prelude.{◌≡◌, ◌%◌, eqb};
 ghost use Rattle.path_splice_rule.specs.Splice.{end_on, stroke_of, side_of, opposite as opposite_of};
 
 // An end of a stroke, by its number: 2 i is the first of stroke i, 2 i + 1 its last.
-#[derive(Drop)]
+#[derive(Clone, Copy)]
 pub struct Endpoint(pub usize);
 
 impl Endpoint {

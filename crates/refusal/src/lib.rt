@@ -1,4 +1,6 @@
 // Why a call is refused: the refusals, their numbers, and the limits that they guard.
+#![tactic(auto)]
+
 ghost use Rattle.std.specs.Prelude.{◌≡◌};
 ghost use Rattle.refusal.specs.Refusals.{number_of, carried_by};
 ghost use Rattle.refusal.specs.Said.{accepted, carried_said};
@@ -15,7 +17,7 @@ pub const MOST_POINTS: usize = 1048576;
 pub const MOST_TO_SIMPLIFY: usize = 4096;
 
 // The refusals, in the order of their numbers. Two of them carry the face at fault.
-#[derive(Drop)]
+#[derive(Clone, Copy)]
 pub enum Refusal {
     Shape,
     Count,
@@ -31,7 +33,7 @@ pub enum Refusal {
 }
 
 // What the tests before a call's work come to.
-#[derive(Drop)]
+#[derive(Clone, Copy)]
 pub enum Verdict {
     Accepted,
     Refused(Refusal),
@@ -57,7 +59,7 @@ pub fn number(r: Refusal) -> u32
 }
 
 // What a refusal carries beside its number.
-#[derive(Drop)]
+#[derive(Clone, Copy)]
 pub enum Carried {
     Face(u32),
     Nothing,

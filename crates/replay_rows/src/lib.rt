@@ -221,7 +221,7 @@ pub fn begins_bytes(page: &[u64; 256], at: usize, n: usize, list: &[u8], rest: u
 
 // What a call answered: its status, and where that is 0 so many of the counts. What it wrote are two lists, as long as the first
 // two counts say.
-#[derive(Drop)]
+#[derive(Clone, Copy)]
 pub struct Answer {
     pub status: u64,
     pub counts: usize,

@@ -15,7 +15,7 @@ use sheet::{
 };
 
 // What reading a sheet answers: its mode and vertices, and how many points and starts were written; or why none were.
-#[derive(Drop)]
+#[derive(Clone, Copy)]
 pub enum SheetRead {
     Wrote {
         mode: u32,

@@ -19,7 +19,7 @@ use sheet::{
 
 // What salvage answers: how many bytes were written, and what was changed for them: offsets, starts ignored, points dropped for
 // their number, points dropped as leftovers; or why nothing was written.
-#[derive(Drop)]
+#[derive(Clone, Copy)]
 pub enum Salvaged {
     Wrote {
         bytes: usize,
@@ -106,7 +106,7 @@ fn begun_one(keep: usize, prev: usize) -> usize
 }
 
 // What is counted: where the next point and the next start go, how many points are below n, and how many starts are ignored.
-#[derive(Drop)]
+#[derive(Clone, Copy)]
 struct Tally {
     kept: Place,
     good: usize,

@@ -13,7 +13,7 @@ use refusal::{Refusal, Verdict};
 use sheet::{HEADER_WORDS, counts_good, mode_word, numbers_from, put_word, write_header};
 
 // What writing a sheet answers: how many bytes were written, or why none were.
-#[derive(Drop)]
+#[derive(Clone, Copy)]
 pub enum SheetWritten {
     Wrote { bytes: usize },
     Refused(Refusal),

@@ -1,4 +1,6 @@
 // The numbers of single precision: what a pattern of 32 bits stands for, and which f64 have such a pattern.
+#![tactic(auto)]
+
 ghost use Rattle.std.specs.Prelude.{◌≡◌, Bool, ◌^◌, ◌<◌};
 ghost use Rattle.std.specs.Float.{binary32, binary64};
 ghost use Rattle.std.specs.Float.Ieee.{fits, of_fields};

@@ -16,7 +16,7 @@ use stl::{FACE_BYTES, FACES_FROM, put_face, put_head};
 use vector::Vector;
 
 // What writing a file answers: how many bytes were written, or why none were.
-#[derive(Drop)]
+#[derive(Clone, Copy)]
 pub enum StlWritten {
     Wrote { bytes: usize },
     Refused(Refusal),

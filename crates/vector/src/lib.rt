@@ -1,5 +1,7 @@
 // The arithmetic of points: a vector is three f64 carried together, and each operation is rounded
 // once, in the order of the source's vector.rs.
+#![tactic(auto)]
+
 ghost use Rattle.std.specs.Prelude.{◌≡◌};
 ghost use Rattle.vector.specs.Answers.{unit_said};
 ghost use Rattle.vector.specs.Vectors.{vec, add_of, sub_of, mul_of, div_of, add_scalar_of, sub_scalar_of, mul_scalar_of, div_scalar_of, dot_of, cross_of, length_squared_of, distance_squared_of, equal_of};
@@ -10,7 +12,7 @@ use crate::number::Root;
 pub mod matrix;
 pub mod number;
 
-#[derive(Drop)]
+#[derive(Clone, Copy)]
 pub struct Vector {
     pub x: f64,
     pub y: f64,
@@ -18,7 +20,7 @@ pub struct Vector {
 }
 
 // A vector of length 1, or nothing where the computed length is 0.
-#[derive(Drop)]
+#[derive(Clone, Copy)]
 pub enum Unit {
     Of(Vector),
     Nothing,

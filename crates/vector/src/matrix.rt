@@ -4,7 +4,7 @@ ghost use Rattle.vector.specs.Matrices.{mul_position_wOf};
 
 use crate::Vector;
 
-#[derive(Drop)]
+#[derive(Clone, Copy)]
 pub struct Matrix {
     pub x00: f64,
     pub x01: f64,

@@ -14,14 +14,14 @@ ghost use Rattle.vector.specs.Abs.{abs_of};
 use refusal::Refusal;
 
 // A whole number, or the refusal.
-#[derive(Drop)]
+#[derive(Clone, Copy)]
 pub enum Whole {
     Of(i64),
     Refused(Refusal),
 }
 
 // A root, or the refusal.
-#[derive(Drop)]
+#[derive(Clone, Copy)]
 pub enum Root {
     Of(f64),
     Refused(Refusal),
@@ -57,7 +57,7 @@ pub fn abs(x: f64) -> f64
 }
 
 // A number d * 2^e, whose d has 53 binary digits.
-#[derive(Drop)]
+#[derive(Clone, Copy)]
 struct Scaled {
     d: u64,
     e: u64,

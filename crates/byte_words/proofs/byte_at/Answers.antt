@@ -1,0 +1,7 @@
+-- `byte_at` meets its contract.
+use mathlib.Core.Path.{sym}
+use lib.ListN.{get_or-eq_default}
+use Rattle.byte_words.proofs.byte_at.Goals as goal
+
+pub returns : goal.returns
+returns c = sym (get_or-eq_default c.args.bytes.now 0 c.if-i-bytes.false)

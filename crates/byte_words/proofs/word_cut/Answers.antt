@@ -1,0 +1,7 @@
+-- `word_cut` meets its contract.
+use Rattle.byte_words.specs.Bytes.{word_from}
+use Rattle.byte_words.proofs.word_cut.Goals as goal
+
+pub returns : goal.returns
+unfolding word_from
+returns c = cc

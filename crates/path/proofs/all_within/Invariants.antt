@@ -1,0 +1,18 @@
+-- `all_within` meets its contract. Those before i were all good where none was counted as bad, and with those
+-- from i on they decide what all decide; the numbers that are left fall.
+use borrow.Author.Rules.{rules}
+use mathlib.Core.Bool.{Bool, true, false, ◌&&◌}
+use mathlib.Core.Path.{◌≡◌, refl, sym, ◌∙◌}
+use native.Mathlib.Omega.{arith}
+use Prim.Native.Nat.{◌-◌, ◌≤◌}
+use lib.ListN.{length, drop}
+use lib.Dec.{eqb}
+use Rattle.path.specs.Tests.{all_within}
+use Rattle.path.proofs.Tests.{good_turn, good-all}
+use Rattle.path.proofs.all_within.Given as goal
+
+abbrev pub invariant-loop-i : goal.invariant-loop-i
+invariant-loop-i l = (l.i ≤ length l.xs) × (l.bad ≤ l.i) × (eqb l.bad 0 && all_within l.most (drop l.i l.xs) ≡ all_within l.most l.xs)
+
+abbrev pub decreases-loop-i : goal.decreases-loop-i
+decreases-loop-i l = length l.xs - l.i

@@ -1,0 +1,13 @@
+-- `coordinates_good` meets its contract: its bound is a power of two.
+use mathlib.Core.Path.{refl}
+use lib.Ieee.{of_bits}
+use Rattle.path.specs.Tests.{coordinates_good}
+use Rattle.path.proofs.coordinates_good.Goals as goal
+
+pub all_within-requires : goal.all_within-requires
+unfolding of_bits
+all_within-requires c = record { power = 20; is = refl }
+
+pub returns : goal.returns
+unfolding coordinates_good
+returns c = c.all_within.ensures

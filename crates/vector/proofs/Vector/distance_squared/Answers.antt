@@ -1,0 +1,6 @@
+-- `distance_squared` meets its contract.
+use Rattle.std.proofs.Common.{rules}
+use Rattle.vector.proofs.Vector.distance_squared.Goals as goal
+
+pub returns : goal.returns
+returns c = rw (c.length_squared.ensures, c.sub.ensures)

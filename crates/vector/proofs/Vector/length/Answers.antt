@@ -1,0 +1,10 @@
+-- `length` meets its contract: the root of the sum of squares, and NaN where that is refused.
+use Rattle.std.proofs.Common.{ap, ◌∙◌}
+use lib.Ieee.{of_bits, div}
+use Rattle.vector.specs.Root.{root_of}
+use Rattle.vector.specs.Lengths.{or_nan}
+use Rattle.vector.proofs.Vector.length.Goals as goal
+
+pub returns-in-Refused : goal.returns-in-Refused
+unfolding of_bits div
+returns-in-Refused c = ap or_nan (c.in-Refused.ensures ∙ ap root_of c.length_squared.ensures)

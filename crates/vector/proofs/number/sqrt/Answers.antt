@@ -1,0 +1,23 @@
+-- `sqrt` meets its contract.
+use lib.Ieee.{of_bits, div}
+use Rattle.vector.proofs.RootSearch.{endless, at_zero, below-zero}
+use Rattle.vector.proofs.number.sqrt.Goals as goal
+
+pub root_of-requires : goal.root_of-requires
+unfolding of_bits div
+root_of-requires c = (c.if-x.true, c.if-x-2.true)
+
+pub returns-then-x-2 : goal.returns-then-x-2
+returns-then-x-2 c = c.root_of.ensures
+
+pub returns-then-x : goal.returns-then-x
+unfolding of_bits div
+returns-then-x c = endless c.args.x c.if-x.true c.if-x-2.false
+
+pub returns-then-x-3 : goal.returns-then-x-3
+unfolding of_bits
+returns-then-x-3 c = at_zero c.args.x c.if-x-3.true
+
+pub returns : goal.returns
+unfolding of_bits
+returns c = below-zero c.args.x c.if-x.false c.if-x-3.false
