@@ -1,4 +1,6 @@
 // What the calls on meshes share: a face by its corners, and the tests of a mesh.
+#![tactic(auto)]
+
 ghost use Rattle.std.specs.Prelude.{◌≡◌, ◌&&◌, ℕ, ◌<◌, ltb};
 ghost use Rattle.mesh.specs.Meshes.{shaped_of, counted_of, all_below, reach_of, vector_good};
 

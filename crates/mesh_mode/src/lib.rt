@@ -1,4 +1,6 @@
 // The mode of a drawing, and the numbers that stand for one.
+#![tactic(auto)]
+
 ghost use Rattle.std.specs.Prelude.{◌≡◌};
 ghost use Rattle.mesh_mode.specs.Modes.{needs_of, meant as meant_by, mode_by, mode_of, mode_said};
 

@@ -1,4 +1,6 @@
 // The first face that has no normal, and what is kept of each face while a mesh is drawn: its normal, and how it faces the eye.
+#![tactic(auto)]
+
 ghost use Rattle.std.specs.Prelude.{◌≡◌, true, ◌/◌, ◌<◌, length, get_or};
 ghost use Rattle.mesh.specs.Meshes.{corner_at, face_at, reach_of};
 ghost use Rattle.refusal.specs.declared.Verdict.TheVariants.{Accepted};

@@ -1,4 +1,6 @@
 // Cutting strokes into steps: path_chop of the source, over lent lists.
+#![tactic(auto)]
+
 ghost use Rattle.std.specs.Prelude.{◌≡◌, cond, ◌&&◌, map, ◌+◌, ◌-◌, ◌*◌, ◌/◌, ◌≤◌, ◌<◌, leb, Float, length};
 ghost use Rattle.std.specs.Float.Ieee.{lt};
 ghost use Rattle.refusal.specs.Limits.{most_points};

@@ -1,5 +1,7 @@
 // Points told apart by their numbers: each gets the number of the first that is the same.
 // With m points there are, in words of scratch, their classes, then their order, room for the sort, and three keys.
+#![tactic(auto)]
+
 ghost use Rattle.std.specs.Prelude.{◌≡◌, ℕ, ◌*◌, ◌^◌, ◌<◌, ◌≤◌, true, false, length, if◌then◌else◌, to_bits};
 ghost use Rattle.std.specs.Float.{binary64};
 ghost use Rattle.refusal.specs.Limits.{most_strokes};

@@ -14,8 +14,8 @@ told part = (part.now, part.ref_ptr.0, part.ref_ptr.1)
 pub one-part : (points : Bor (List ℕ)) (ss : List ℕ) (i : ℕ) → One (List ℕ × ℕ × ℕ) (λ o. (part : Bor (List ℕ)) × (told part ≡ o) × Own points ss i part)
 one-part points ss i o u p q =
     let holds : p.0.now ≡ q.0.now = p.2.holds ∙ sym q.2.holds in
-    let block : p.0.ptr.0 ≡ q.0.ptr.0 = p.2.block ∙ sym q.2.block in
-    let place : p.0.ptr.1 ≡ q.0.ptr.1 = p.2.place ∙ sym q.2.place in
+    let block : p.0.ref_ptr.0 ≡ q.0.ref_ptr.0 = p.2.block ∙ sym q.2.block in
+    let place : p.0.ref_ptr.1 ≡ q.0.ref_ptr.1 = p.2.place ∙ sym q.2.place in
     sym p.1 ∙ (λ j. (holds j, block j, place j)) ∙ q.1
 
 -- for `new` and `rest`, which say each field

@@ -1,5 +1,7 @@
 // A reader over a list of strokes: it hands out one stroke after another, each a part of the lent slice, an empty one too.
 // The struct is taken apart by the four functions over it, and the work is done by functions on slices and numbers.
+#![tactic(auto)]
+
 ghost use Rattle.std.specs.Prelude.{◌≡◌, ◌≤◌, get_or};
 ghost use Rattle.path_reader.specs.Reading.{least, first_at, Own, left_at, stroke_after};
 

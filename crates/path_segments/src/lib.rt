@@ -1,4 +1,6 @@
 // Segments between points, joined into strokes: ends meet where their points are the same.
+#![tactic(auto)]
+
 ghost use Rattle.std.specs.Prelude.{◌≡◌, [], ◌∷◌, ◌+◌, ◌*◌, ◌≤◌, length, replicate};
 ghost use Rattle.refusal.specs.Said.{accepted};
 ghost use Rattle.refusal.specs.Limits.{most_strokes, most_points};

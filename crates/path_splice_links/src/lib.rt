@@ -1,5 +1,7 @@
 // Links between the ends of strokes, and the walk along them, in words of scratch.
 // With n strokes there are the values of their ends, then the order, the links, and what is to do.
+#![tactic(auto)]
+
 ghost use Rattle.std.specs.Prelude.{◌≡◌, not, ◌≢◌, ℕ, ◌+◌, ◌-◌, ◌*◌, ◌/◌, ◌<◌, ◌≤◌, length, get_or};
 ghost use Rattle.order.specs.Regions.{region, Into, Into2};
 ghost use Rattle.path_splice_rule.specs.Splice.{stroke_of, is_free, opposite as opposite_of, onward as onward_of, pass as pass_of};

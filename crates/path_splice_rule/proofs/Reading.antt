@@ -13,7 +13,7 @@ use Rattle.path_splice_rule.proofs.Walking.{Chain, end, next, Stops, weigh}
 module _ {A : Type 0} where
   along-join : (g : A → A → ℕ) (x : A) (s : List A) (y : A) (r : List A) → last_of x s ≡ y → over_pairs g ((x ∷ s) ++ r) ≡ over_pairs g (x ∷ s) + over_pairs g (y ∷ r)
   unfolding over_pairs last_of
-  along-join g x [] y r h = rw h (omega arith)
+  along-join g x [] y r h = subst (λ (z : A). over_pairs g ((x ∷ []) ++ r) ≡ over_pairs g (x ∷ []) + over_pairs g (z ∷ r)) h (omega arith)
   along-join g x (z ∷ s) y r h = omega (arith, along-join g z s y r h)
 
   along-turn : (g : A → A → ℕ) → ((x y : A) → g x y ≡ g y x) → (s : List A) (x : A) (r : List A) → over_pairs g (reverse_aux s (x ∷ r)) ≡ over_pairs g (x ∷ s) + over_pairs g (x ∷ r)

@@ -1,4 +1,6 @@
 // The ends of strokes. What splicing strokes by their ends comes to is said in specs/Splice, and what holds of it in specs/Demand.
+#![tactic(auto)]
+
 ghost use Rattle.std.specs.Prelude.{◌≡◌, ◌%◌, eqb};
 ghost use Rattle.path_splice_rule.specs.Splice.{end_on, stroke_of, side_of, opposite as opposite_of};
 

@@ -14,7 +14,6 @@ use Rattle.mesh_weld.specs.Call as W
 use Rattle.mesh_contour.specs.Call as C
 use Rattle.mesh_strokes.specs.Call as D
 use Rattle.sheet_write.specs.Call as O
-use Rattle.sheet_salvage.specs.Call as G
 use Rattle.stl_write.specs.Call as F
 use Rattle.sheet_read.specs.Call as R
 use Rattle.ramikohy.specs.Points.{point_of}
@@ -91,9 +90,6 @@ one-draw x r t p q =
 
 pub one-writing : (x : Called O.Lent) → One (ℕ × List ℕ × List ℕ) (λ o. called o.0 o.1 (O.lent o.2) ≡ x)
 one-writing x r t p q = let e = one-called x (r.0, r.1, O.lent r.2) (t.0, t.1, O.lent t.2) p q in λ i. ((e i).0, (e i).1, (e i).2.bytes)
-
-pub one-salvage : (x : Called G.Lent) → One (ℕ × List ℕ × List ℕ) (λ o. called o.0 o.1 (G.lent o.2) ≡ x)
-one-salvage x r t p q = let e = one-called x (r.0, r.1, G.lent r.2) (t.0, t.1, G.lent t.2) p q in λ i. ((e i).0, (e i).1, (e i).2.bytes)
 
 pub one-write_stl : (x : Called F.Lent) → One (ℕ × List ℕ × List ℕ) (λ o. called o.0 o.1 (F.lent o.2) ≡ x)
 one-write_stl x r t p q = let e = one-called x (r.0, r.1, F.lent r.2) (t.0, t.1, F.lent t.2) p q in λ i. ((e i).0, (e i).1, (e i).2.bytes)

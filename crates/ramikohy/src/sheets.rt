@@ -3,11 +3,9 @@
 ghost use Rattle.std.specs.Prelude.{◌≡◌, [], ◌∷◌};
 ghost use Rattle.sheet_write.specs.Call.{lent as write_lent, write_left};
 ghost use Rattle.sheet_read.specs.Call.{lent as read_lent, read_left};
-ghost use Rattle.sheet_salvage.specs.Call.{lent as salvage_lent, salvage_left};
 ghost use Rattle.ramikohy.specs.Calls.{called, called_by};
 
 use sheet_read::SheetRead;
-use sheet_salvage::Salvaged;
 use sheet_write::SheetWritten;
 
 // Writes strokes of vertex numbers as a sheet.
@@ -61,39 +59,5 @@ pub extern "C" fn ramikohy_read_sheet(
             0
         }
         SheetRead::Refused(why) => refusal::number(why),
-    }
-}
-
-// Writes a good sheet of what bytes still hold of one.
-#[unsafe(no_mangle)]
-pub extern "C" fn ramikohy_salvage_sheet(
-    bytes: &[u8],
-    out: &mut [u8],
-    byte_count: &mut usize,
-    offsets: &mut usize,
-    starts: &mut usize,
-    numbers: &mut usize,
-    leftovers: &mut usize,
-) -> u32
-    ensures { called result (byte_count.new ∷ offsets.new ∷ starts.new ∷ numbers.new ∷ leftovers.new ∷ []) (salvage_lent out.new)
-        ≡ called_by (salvage_left bytes.now out.old)
-        (byte_count.old ∷ offsets.old ∷ starts.old ∷ numbers.old ∷ leftovers.old ∷ []) }
-{
-    match sheet_salvage::salvage_sheet(bytes, out) {
-        Salvaged::Wrote {
-            bytes: n,
-            offsets: o,
-            starts: s,
-            numbers: w,
-            leftovers: l,
-        } => {
-            *byte_count = n;
-            *offsets = o;
-            *starts = s;
-            *numbers = w;
-            *leftovers = l;
-            0
-        }
-        Salvaged::Refused(why) => refusal::number(why),
     }
 }

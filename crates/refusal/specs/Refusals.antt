@@ -1,6 +1,6 @@
 -- The table of refusals: each number is given exactly when its line says, and the lowest that applies, but: between the two that carry a
 -- face the lowest face at fault decides; in `chop_adaptive` 6 and 8 go to whichever the walk meets first; reading a sheet tests 9 before 6,
--- salvaging one 9 before 2 and 6, and reading a file 11 before all others.
+-- and reading a file 11 before all others.
 use Rattle.std.specs.Prelude.{Bool, true, false, List, [], ◌∷◌, ℕ}
 use Rattle.refusal.specs.declared.Refusal.{Refusal}
 use Rattle.refusal.specs.declared.Refusal.TheVariants.{Shape, Count, Vertex, Number, Scratch, Room, Alike, Deep, Sheet, NoLength, Stl}
@@ -23,7 +23,7 @@ number_of Scratch = 5  -- scratch too short
 number_of Room = 6  -- output too short, or a cut of too many points
 number_of (Alike face) = alike_number
 number_of Deep = 8  -- a span halved too often
-number_of Sheet = 9  -- bytes that are not a sheet, or have no header to salvage one by
+number_of Sheet = 9  -- bytes that are not a sheet
 number_of (NoLength face) = no_length_number
 number_of Stl = 11  -- bytes that are not a binary STL file
 

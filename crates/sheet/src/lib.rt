@@ -1,5 +1,7 @@
 // What writing and reading a sheet share: words by their number, the places of the header's words, the mode
 // numbers that a sheet has, and the limits of counts.
+#![tactic(auto)]
+
 ghost use Rattle.std.specs.Prelude.{◌≡◌, ◌*◌};
 ghost use Rattle.std.proofs.lemmas.List.Edits.{sets};
 ghost use Rattle.byte_words.specs.Bytes.{bytes_of, bytes_all};

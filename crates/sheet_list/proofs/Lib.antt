@@ -1,6 +1,5 @@
 pub mod Inks
 pub mod Lines
-pub mod Reports
 pub mod Decimals
 pub mod Unique
 pub mod Cases

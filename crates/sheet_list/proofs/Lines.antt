@@ -109,7 +109,7 @@ unfolding spaced
 spaced-size [] = omega arith
 spaced-size (x ∷ xs) = let r = spaced-size xs in let d = decimal-size x in omega (arith, length-append (decimal x) (spaced xs))
 
-pub line-size : (xs : List ℕ) → length (line_of xs) ≤ 11 * length xs + 1
+line-size : (xs : List ℕ) → length (line_of xs) ≤ 11 * length xs + 1
 unfolding line_of
 line-size [] = omega arith
 line-size (x ∷ xs) =

@@ -1,5 +1,4 @@
 pub mod Listing
-pub mod Reports
 pub mod Decimals
 pub mod Cases
 pub mod InnerLines

@@ -1,8 +1,8 @@
 -- The call as a whole: what its tests grant, what the parts come to, and what it leaves.
 use mathlib.Core.Path.{◌≡◌, sym, ap, ◌∙◌}
 use mathlib.Core.Bool.{true}
-use mathlib.Core.List.{List, [], ◌∷◌}
-use Prim.Native.Nat.{ℕ, ◌≤◌}
+use mathlib.Core.List.{List, [], ◌∷◌, ◌++◌}
+use Prim.Native.Nat.{ℕ, ◌+◌, ◌*◌, ◌≤◌}
 use native.Mathlib.Omega.{arith}
 use lib.ListN.{length}
 use lib.Seq.{sets}
@@ -17,7 +17,8 @@ use Rattle.path.proofs.Tests.{passed}
 use Rattle.path.proofs.Pushes.{over-sets}
 use Rattle.sheet.specs.InnerKept.{kept_from}
 use Rattle.byte_words.specs.Bytes.{bytes_all}
-use Rattle.sheet.specs.Sheets.{words_of, sheet_of, size_of}
+use Rattle.sheet.specs.Sheets.{header_words, numbers_from, header_of, words_of, sheet_of, size_of}
+use Rattle.sheet.proofs.Words.{put-more}
 use Rattle.path.proofs.Again.{joined-all}
 use Rattle.sheet.proofs.Tables.{kept-all, kept-count}
 use Rattle.sheet.proofs.Sizes.{limits}
@@ -45,6 +46,14 @@ granted mode vertices ns ss room h =
     let fit = passed _ _ _ number.1 in
     let few = limits vertices (length ss) (length ns) count.0 in
     record { table = shape.0; strokes = few.0; points = few.1; fits = leb-true _ _ (same_size ns ss room shape.0 ∙ fit.0) }
+
+-- header, starts and numbers stored one after the other
+pub all_put : (l : List ℕ) (m v : ℕ) (ks ns : List ℕ) (k : ℕ) (l₁ l₂ l₃ : List ℕ) → l₁ ≡ sets l 0 (bytes_all (header_of m v (length ks) (length ns)))
+    → l₂ ≡ sets l₁ (header_words * 4) (bytes_all ks) → k ≡ numbers_from (length ks) → l₃ ≡ sets l₂ (k * 4) (bytes_all ns) → l₃ ≡ sets l 0 (bytes_all (words_of m v ks ns))
+unfolding header_of
+all_put l m v ks ns k l₁ l₂ l₃ e₁ e₂ e e₃ =
+    e₃ ∙ ap (λ (x : List ℕ). sets x (k * 4) (bytes_all ns)) e₂ ∙ ap (λ (x : ℕ). sets (sets l₁ (header_words * 4) (bytes_all ks)) (x * 4) (bytes_all ns)) e ∙ put-more l₁ header_words ks ns
+    ∙ ap (λ (x : List ℕ). sets x (header_words * 4) (bytes_all (ks ++ ns))) e₁ ∙ put-more l 0 (header_of m v (length ks) (length ns)) (ks ++ ns)
 
 -- the words that the code stores are those of the sheet
 pub sheet_is : (m v : ℕ) (ns ss : List ℕ) → good_starts (length ns) ss ≡ true → bytes_all (words_of m v (kept_from (length ns) ss) ns) ≡ sheet_of m v (strokes_in ns ss)

@@ -3,17 +3,20 @@ ghost use Rattle.std.specs.Prelude.{◌≡◌, ◌+◌, ◌*◌, ◌<◌, ◌≤
 ghost use Rattle.std.proofs.lemmas.List.Edits.{sets};
 ghost use Rattle.refusal.specs.Limits.{most_strokes, most_points};
 ghost use Rattle.byte_words.specs.Bytes.{bytes_all};
-ghost use Rattle.sheet.specs.Sheets.{header_words, numbers_from, mode_word, words_of, size_of};
+ghost use Rattle.sheet.specs.Sheets.{header_words, numbers_from, mode_word, header_of, words_of, size_of};
 ghost use Rattle.sheet.specs.InnerKept.{kept_at, kept_from};
 ghost use Rattle.sheet_write.specs.Call.{verdict_of, said, left, write_left};
 
 use mesh::all_below;
 use path::{end_of, rising};
 use refusal::{Refusal, Verdict};
-use sheet::{HEADER_WORDS, counts_good, mode_word, numbers_from, put_word, write_header};
+use sheet::{
+    HEADER_WORDS, MODE, NUMBERS_OFFSET, POINTS, STARTS_OFFSET, STROKES, VERTICES, counts_good,
+    mode_word, numbers_from, put_word,
+};
 
 // What writing a sheet answers: how many bytes were written, or why none were.
-#[derive(Clone, Copy)]
+#[derive(Drop)]
 pub enum SheetWritten {
     Wrote { bytes: usize },
     Refused(Refusal),
@@ -91,6 +94,19 @@ fn write_numbers(numbers: &[u32], out: &mut [u8], k: usize)
         put_word(out, k + i, numbers[i]);
         i += 1;
     }
+}
+
+// Stores the header: counts, and the offsets of starts and numbers.
+fn write_header(out: &mut [u8], mode: u32, vertices: u32, strokes: u32, points: u32)
+    requires { strokes ≤ most_strokes }
+    ensures { out.new ≡ sets out.old 0 (bytes_all (header_of mode vertices strokes points)) }
+{
+    put_word(out, MODE, mode);
+    put_word(out, VERTICES, vertices);
+    put_word(out, STROKES, strokes);
+    put_word(out, POINTS, points);
+    put_word(out, STARTS_OFFSET, (4 * HEADER_WORDS) as u32);
+    put_word(out, NUMBERS_OFFSET, (4 * numbers_from(strokes)) as u32);
 }
 
 // Whether the sheet of n numbers fits so many bytes.

@@ -1,5 +1,7 @@
 // Binary STL files as bytes: a header, the count of faces, then for each face its normal, three corners and two bytes more.
 // Only the count and the corners are read; all else is written as 0.
+#![tactic(auto)]
+
 ghost use Rattle.std.specs.Prelude.{◌≡◌, [], ◌∷◌, map, ◌^◌, ◌<◌};
 ghost use Rattle.std.proofs.lemmas.List.Edits.{sets};
 ghost use Rattle.byte_words.specs.Bytes.{bytes_all};

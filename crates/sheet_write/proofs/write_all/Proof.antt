@@ -7,7 +7,7 @@ use lib.Seq.{sets}
 use Rattle.byte_words.specs.Bytes.{bytes_all}
 use Rattle.sheet.specs.Sheets.{header_of, mode_word}
 use Rattle.sheet.specs.InnerKept.{kept_from}
-use Rattle.sheet.proofs.Words.{all_put}
+use Rattle.sheet_write.proofs.Calls.{all_put}
 use Rattle.sheet_write.proofs.write_all.Statement.{statement}
 use Rattle.sheet_write.proofs.write_all.Tie as tie
 

@@ -28,8 +28,8 @@ returns c = (c.number.ensures, ap (λ (x : Said ℕ). get_or x.values 0 c.before
 returns-2 : tie.Need-returns-2
 returns-2 c = (c.number2.ensures, ap (λ (x : Said ℕ). get_or x.values 0 c.before.before.before.before.args.face.now) (ap carried_said (sym c.before.enum_told.given.1) ∙ c.before.before.before.carried-by.ensures))
 
-pub told-spec : {M : Type 1} → statement M
-told-spec =
+pub told_spec : {M : Type 1} → statement M
+told_spec =
     tie.close
     (tie.spec
     carried-by-requires

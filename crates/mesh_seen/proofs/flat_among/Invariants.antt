@@ -1,0 +1,17 @@
+-- `flat_among` meets its contract. The verdict on the faces from f on is that on all; the faces that are left fall.
+use mathlib.Core.Path.{◌≡◌, refl, sym, ap, ◌∙◌}
+use Prim.Native.Nat.{◌-◌, ◌≤◌}
+use native.Mathlib.Omega.{arith}
+use Rattle.refusal.specs.declared.Verdict.TheVariants.{Accepted}
+use Rattle.mesh.specs.declared.Triangle.{Triangle}
+use Rattle.mesh.specs.Meshes.{face_at}
+use Rattle.mesh_seen.specs.Normals.{flat_of}
+use Rattle.mesh_seen.specs.Seen.{face_verdict, flat_from}
+use Rattle.mesh_seen.proofs.Faces.{flat-more, flat-found, flat-none}
+use Rattle.mesh_seen.proofs.flat_among.Given as goal
+
+abbrev pub invariant-loop-f : goal.invariant-loop-f
+invariant-loop-f l = (l.f ≤ l.n) × (flat_from (face_at l.vertices l.indices) l.f (l.n - l.f) ≡ flat_from (face_at l.vertices l.indices) 0 l.n)
+
+abbrev pub decreases-loop-f : goal.decreases-loop-f
+decreases-loop-f l = l.n - l.f

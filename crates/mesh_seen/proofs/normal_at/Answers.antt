@@ -1,0 +1,6 @@
+-- `normal_at` meets its contract.
+
+use Rattle.mesh_seen.proofs.normal_at.Goals as goal
+
+pub returns : goal.returns
+returns c = rw (c.number_at.ensures, c.number_at-2.ensures, c.number_at-3.ensures)

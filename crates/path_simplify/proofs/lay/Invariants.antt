@@ -1,0 +1,20 @@
+-- `lay` meets its contract. Putting the points of the places from the i-th on from here leaves what putting all leaves;
+-- the places that are left fall.
+use mathlib.Core.Path.{◌≡◌, refl, sym, ◌∙◌}
+use mathlib.Core.List.{map}
+use Prim.Native.Nat.{◌+◌, ◌-◌, ◌≤◌}
+use native.Mathlib.Omega.{arith}
+use native.Mathlib.Nat.{add-zero}
+use lib.ListN.{length, take, drop}
+use Rattle.path.specs.Strokes.{point_at}
+use Rattle.path.specs.InnerPushes.{put_points}
+use Rattle.path_simplify.specs.InnerNotes.{count_noted, thin_at}
+use Rattle.path_simplify.proofs.Notes.{lay_turn, lay_end}
+use Rattle.path_simplify.proofs.lay.Given as goal
+
+abbrev pub invariant-loop-i : goal.invariant-loop-i
+invariant-loop-i l = (l.i ≤ l.n) × (length l.out ≡ length l.initial.out)
+    × (put_points l.out (l.at + l.i) (map (point_at l.points) (drop l.i (take l.n (drop 2 l.kept)))) ≡ put_points l.initial.out l.at (map (point_at l.points) (take l.n (drop 2 l.kept))))
+
+abbrev pub decreases-loop-i : goal.decreases-loop-i
+decreases-loop-i l = l.n - l.i

@@ -1,0 +1,20 @@
+use native.Mathlib.Omega.{arith}
+use mathlib.Core.Path.{◌≡◌, refl, sym, ◌∙◌}
+use Prim.Native.Nat.{◌+◌, ◌-◌, ◌≤◌}
+use lib.ListN.{length, length-set}
+use Rattle.order.specs.Regions.{region, put}
+use mathlib.Core.List.{reverse}
+use Rattle.path_splice.proofs.Tables.{backward_turn, backward_end}
+use Rattle.path_splice.proofs.write_backward.Goals as goal
+
+pub loop-i-init : goal.loop-i-init
+loop-i-init c = (omega arith, omega arith, refl, refl, refl)
+
+pub loop-i-preserved : goal.loop-i-preserved
+loop-i-preserved c = (omega arith, omega arith, omega arith, rw length-set c.loop-i.invariant.3, backward_turn c.args.points.now c.args.a c.loop-i.i c.loop-i.out c.loop-i.k c.loop-i-test.true (omega (arith, c.requires.1, c.loop-i.invariant.1)) ∙ c.loop-i.invariant.4)
+
+pub shape_of-out : goal.shape_of-out
+shape_of-out c = c.loop-i.invariant.3
+
+pub returns : goal.returns
+returns c = sym (backward_end c.args.points.now c.args.a c.loop-i.i c.loop-i.out c.loop-i.k (omega arith)) ∙ c.loop-i.invariant.4

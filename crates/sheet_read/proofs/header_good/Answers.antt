@@ -1,0 +1,17 @@
+-- `header_good` meets its contract: each test is that of the definition.
+use mathlib.Core.Path.{sym, ◌∙◌}
+use borrow.Author.Tests.{not-true, not-false}
+use Rattle.sheet.specs.Sheets.{header_good}
+use Rattle.sheet_read.proofs.header_good.Goals as goal
+
+pub returns-then-not-mode_good : goal.returns-then-not-mode_good
+unfolding header_good
+returns-then-not-mode_good c = rw (← c.word_at.ensures, sym c.mode_good.ensures ∙ c.if-not-mode_good.true)
+
+pub returns-then-not-counts_good : goal.returns-then-not-counts_good
+unfolding header_good
+returns-then-not-counts_good c = rw (← c.word_at.ensures, sym c.mode_good.ensures ∙ c.if-not-mode_good.false, ← c.word_at-2.ensures, ← c.word_at-points.ensures, ← c.word_at-strokes.ensures, sym c.counts_good.ensures ∙ c.if-not-counts_good.true)
+
+pub returns : goal.returns
+unfolding header_good
+returns c = rw (← c.word_at.ensures, sym c.mode_good.ensures ∙ c.if-not-mode_good.false, ← c.word_at-2.ensures, ← c.word_at-points.ensures, ← c.word_at-strokes.ensures, sym c.counts_good.ensures ∙ c.if-not-counts_good.false) c.places_good.ensures
