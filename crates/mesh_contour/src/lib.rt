@@ -1,4 +1,6 @@
 // The contour of a mesh cut by a plane: a segment for each face that the plane parts, joined into as few strokes as they allow.
+#![tactic(auto)]
+
 ghost use Rattle.std.specs.Prelude.{◌≡◌, true, ◌+◌, ◌*◌, ◌/◌, ◌≤◌, ◌<◌, length, get_or};
 ghost use Rattle.refusal.specs.Limits.{most_faces};
 ghost use Rattle.path.specs.Laid.{joined};

@@ -10,15 +10,15 @@ use Rattle.mesh_contour_rule.specs.declared.Corner.{Corner}
 use Rattle.mesh_contour_rule.specs.Contour.{side_of, cross_from, unsigned}
 
 module _ (tolerance h : Float) where
-  pub lies_above : not (lt h tolerance) ≡ true → Above ≡ side_of tolerance h
+  pub lies_above : lt h tolerance ≡ false → Above ≡ side_of tolerance h
   unfolding side_of
   lies_above e = rw e
 
-  pub lies_below : not (lt h tolerance) ≡ false → not (lt (neg tolerance) h) ≡ true → Below ≡ side_of tolerance h
+  pub lies_below : lt h tolerance ≡ true → lt (neg tolerance) h ≡ false → Below ≡ side_of tolerance h
   unfolding side_of
   lies_below e f = rw (e, f)
 
-  pub lies_on : not (lt h tolerance) ≡ false → not (lt (neg tolerance) h) ≡ false → On ≡ side_of tolerance h
+  pub lies_on : lt h tolerance ≡ true → lt (neg tolerance) h ≡ true → On ≡ side_of tolerance h
   unfolding side_of
   lies_on e f = rw (e, f)
 

@@ -1,4 +1,6 @@
 // The rule of a contour: where a plane that cuts a face meets it, its corners and sides in turn.
+#![tactic(auto)]
+
 ghost use Rattle.std.specs.Prelude.{◌≡◌, ◌≤◌};
 ghost use Rattle.mesh_contour_rule.specs.Contour.{corner_by, side_of, above, below, on, parts, cross_from, crossing as crossing_of, gives_by, unsigned, unsigned_point, segment_by, cut_points};
 ghost use Rattle.mesh_contour_rule.specs.InnerMet.{first_met, last_met};

@@ -1,4 +1,6 @@
 // Drawing a mesh: its kept edges, each once, spliced into strokes with as few pen lifts as those edges allow.
+#![tactic(auto)]
+
 ghost use Rattle.std.specs.Prelude.{◌≡◌, true, ◌&&◌, ◌/◌, ◌≤◌, length};
 ghost use Rattle.refusal.specs.Limits.{most_faces};
 ghost use Rattle.mesh.specs.Meshes.{shaped_of, all_below};

@@ -1,4 +1,6 @@
 // The edges of a mesh as words of scratch: its sides by their pairs, and which edges of two faces are flipped.
+#![tactic(auto)]
+
 ghost use Rattle.std.specs.Prelude.{◌≡◌, ◌+◌, ◌-◌, ◌*◌, ◌<◌, ◌≤◌, length, get_or, replicate};
 ghost use Rattle.refusal.specs.Limits.{most_faces};
 ghost use Rattle.order.specs.Regions.{region, put};

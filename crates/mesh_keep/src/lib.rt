@@ -1,4 +1,6 @@
 // Which edges a mode keeps, by the faces of an edge and what was stored of them.
+#![tactic(auto)]
+
 ghost use Rattle.std.specs.Prelude.{◌≡◌, false};
 ghost use Rattle.vector.specs.Lengths.{zero64};
 ghost use Rattle.mesh_mode.specs.declared.Mode.TheVariants.{Polygonal, Silhouette};

@@ -64,26 +64,26 @@ module _ (at : ℕ → Triangle) (p : Plane) (tolerance : Float) where
   faces_strokes f (suc n) = ap suc (faces_strokes (f + 1) n)
 
   -- what n faces give fits the room that is asked for
-  pub faces_fit : (n room startRoom : ℕ) → n * 6 ≤ room → n ≤ startRoom
-      → (length (joined (faces_cut at p tolerance 0 n)) * 3 ≤ room) × (length (non_empty (faces_cut at p tolerance 0 n)) ≤ startRoom)
-  faces_fit n room startRoom h k =
+  pub faces_fit : (n room start_room : ℕ) → n * 6 ≤ room → n ≤ start_room
+      → (length (joined (faces_cut at p tolerance 0 n)) * 3 ≤ room) × (length (non_empty (faces_cut at p tolerance 0 n)) ≤ start_room)
+  faces_fit n room start_room h k =
       (omega (arith, faces_points 0 n), omega (arith, no_more_kept (faces_cut at p tolerance 0 n), faces_strokes 0 n))
 
-pub fitting : (vs : List Float) (is : List ℕ) (p : Plane) (tolerance : Float) (room startRoom : ℕ) → verdict_of vs is p tolerance room startRoom ≡ Accepted
-    → (length is / 3 ≤ most_faces) × (length is / 3 * 6 ≤ room) × (length is / 3 ≤ startRoom)
+pub fitting : (vs : List Float) (is : List ℕ) (p : Plane) (tolerance : Float) (room start_room : ℕ) → verdict_of vs is p tolerance room start_room ≡ Accepted
+    → (length is / 3 ≤ most_faces) × (length is / 3 * 6 ≤ room) × (length is / 3 ≤ start_room)
 unfolding verdict_of counted_of room_for
-fitting vs is p tolerance room startRoom h =
+fitting vs is p tolerance room start_room h =
     let shape = passed _ _ _ h in
     let count = passed _ _ _ shape.1 in
     let vertex = passed _ _ _ count.1 in
     let number = passed _ _ _ vertex.1 in
-    let fits = both (leb (length is / 3 * 6) room) (leb (length is / 3) startRoom) (passed _ _ _ number.1).0 in
+    let fits = both (leb (length is / 3 * 6) room) (leb (length is / 3) start_room) (passed _ _ _ number.1).0 in
     (leb-true _ _ (both (leb (length vs / 3) most_vertices) (leb (length is / 3) most_faces) count.0).1, leb-true _ _ fits.0, leb-true _ _ fits.1)
 
 -- all faces are there with all their corners
-pub reaching : (vs : List Float) (is : List ℕ) (p : Plane) (tolerance : Float) (room startRoom : ℕ) → verdict_of vs is p tolerance room startRoom ≡ Accepted
+pub reaching : (vs : List Float) (is : List ℕ) (p : Plane) (tolerance : Float) (room start_room : ℕ) → verdict_of vs is p tolerance room start_room ≡ Accepted
     → reach_of (length vs / 3) is (length is / 3) ≡ true
 unfolding verdict_of reach_of
-reaching vs is p tolerance room startRoom h =
+reaching vs is p tolerance room start_room h =
     let vertex = passed _ _ _ (passed _ _ _ (passed _ _ _ h).1).1 in
     rw (le-leb (length is / 3 * 3) (length is) (omega arith), vertex.0)

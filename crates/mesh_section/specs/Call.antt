@@ -25,15 +25,15 @@ numbers_good vs p tolerance = coordinates_good vs && vector_good p.point && vect
 
 -- room for two points and a start a face
 unfoldable pub room_for : ℕ → ℕ → ℕ → Bool
-room_for faces room startRoom = leb (faces * 6) room && leb faces startRoom
+room_for faces room start_room = leb (faces * 6) room && leb faces start_room
 
 unfoldable pub verdict_of : List Float → List ℕ → Plane → Float → ℕ → ℕ → Verdict
-verdict_of vs is p tolerance room startRoom =
+verdict_of vs is p tolerance room start_room =
     unless (shaped_of (length vs) (length is)) Shape
     (unless (counted_of (length vs) (length is)) Count
     (unless (all_below (length vs / 3) is) Vertex
     (unless (numbers_good vs p tolerance) Number
-    (unless (room_for (length is / 3) room startRoom) Room
+    (unless (room_for (length is / 3) room start_room) Room
     Accepted))))
 
 unfoldable pub section_left : List Float → List ℕ → Plane → Float → List Float → List ℕ → Outcome Lent

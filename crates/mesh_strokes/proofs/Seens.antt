@@ -86,6 +86,7 @@ module _ (eye : Vector) (vs : List Float) (is : List ℕ) (l : List Float) (room
 
 -- ---- strokes of edges
 in_left : (a b : List ℕ) (y : ℕ) → In y a → In y (a ++ b)
+in_left [] b y h = elim h [ ]
 in_left (x ∷ a) b y (inl e) = inl e
 in_left (x ∷ a) b y (inr i) = inr (in_left a b y i)
 
@@ -94,6 +95,7 @@ in_right [] b y i = i
 in_right (x ∷ a) b y i = inr (in_right a b y i)
 
 faces_below : (n : ℕ) (g : List ℕ) → Below (3 * n) g → Below n (map face_of g)
+faces_below n [] b y h = elim h [ ]
 faces_below n (x ∷ g) b y (inl e) = rw e (faces x (b x (inl refl)))
   where
     faces : (k : ℕ) → k < 3 * n → k / 3 < n

@@ -30,18 +30,18 @@ use Rattle.mesh_strokes.specs.Call.{left, laid, scratch_for, room_for, fits, str
 use Rattle.mesh_strokes.proofs.Seens.{kept-edges}
 
 -- ---- what the test promises
-pub granted : (is : List ℕ) (words numbers room startRoom : ℕ) → fits (length is) words numbers room startRoom ≡ true → Fitting is words numbers room startRoom
+pub granted : (is : List ℕ) (words numbers room start_room : ℕ) → fits (length is) words numbers room start_room ≡ true → Fitting is words numbers room start_room
 unfolding fits scratch_for room_for
-granted is words numbers room startRoom h =
-    let f = both (eqb (length is % 3) 0 && leb (length is / 3) most_faces && (leb (64 * (length is / 3)) words && leb (4 * (length is / 3)) numbers)) (leb (6 * (length is / 3)) room && leb (3 * (length is / 3)) startRoom) h in
+granted is words numbers room start_room h =
+    let f = both (eqb (length is % 3) 0 && leb (length is / 3) most_faces && (leb (64 * (length is / 3)) words && leb (4 * (length is / 3)) numbers)) (leb (6 * (length is / 3)) room && leb (3 * (length is / 3)) start_room) h in
     let g = both (eqb (length is % 3) 0 && leb (length is / 3) most_faces) (leb (64 * (length is / 3)) words && leb (4 * (length is / 3)) numbers) f.0 in
     let m = both (eqb (length is % 3) 0) (leb (length is / 3) most_faces) g.0 in
     let s = both (leb (64 * (length is / 3)) words) (leb (4 * (length is / 3)) numbers) g.1 in
-    let r = both (leb (6 * (length is / 3)) room) (leb (3 * (length is / 3)) startRoom) f.1 in
+    let r = both (leb (6 * (length is / 3)) room) (leb (3 * (length is / 3)) start_room) f.1 in
     record { three = eqb-true _ _ m.0; few = leb-true _ _ m.1; scratch = leb-true _ _ s.0; seen = leb-true _ _ s.1; points = leb-true _ _ r.0; starts = leb-true _ _ r.1 }
 
 -- ---- the steps
-module _ (is : List ℕ) (words numbers room startRoom : ℕ) (F : Fitting is words numbers room startRoom) where
+module _ (is : List ℕ) (words numbers room start_room : ℕ) (F : Fitting is words numbers room start_room) where
   sides : length is ≤ 3 * most_faces
   sides = omega (arith, F.three, F.few)
 
@@ -52,7 +52,7 @@ module _ (is : List ℕ) (words numbers room startRoom : ℕ) (F : Fitting is wo
   listed s t flips e f = record { flips = flips; words = ap (take (5 * length is)) f ∙ edges_words s is flips sides (omega (arith, F.three, F.scratch, e)) }
 
   -- the kept edges fit
-  pub fitting : (m : ℕ) (s op os : List ℕ) → length s ≡ words → m ≤ length is → length op ≡ room → length os ≡ startRoom
+  pub fitting : (m : ℕ) (s op os : List ℕ) → length s ≡ words → m ≤ length is → length op ≡ room → length os ≡ start_room
       → pairs_fit m (length (drop (5 * length is) s)) (length op) (length os) ≡ true
   unfolding pairs_fit
   fitting m s op os e h p q =
@@ -86,11 +86,11 @@ pub laid_as : (ss ts : List (List ℕ)) (op os op' os' : List ℕ) (p q : ℕ) �
 laid_as ss ts op os op' os' p q e L = subst (λ (D : List (List ℕ)). LaidOut D op os op' os' p q) e L
 
 -- the pairs are the kept edges, and their splice the drawing
-pub drawing_of_lem : (mode : Mode) (eye : Vector) (tolerance : Float) (flips : List ℕ) (vs : List Float) (is : List ℕ) (l : List Float) (s t u : List ℕ) (m words numbers room startRoom : ℕ)
-    → Fitting is words numbers room startRoom → length s ≡ words → length l ≡ numbers → t ≡ edges_in s is (flips_for mode flips)
+pub drawing_of_lem : (mode : Mode) (eye : Vector) (tolerance : Float) (flips : List ℕ) (vs : List Float) (is : List ℕ) (l : List Float) (s t u : List ℕ) (m words numbers room start_room : ℕ)
+    → Fitting is words numbers room start_room → length s ≡ words → length l ≡ numbers → t ≡ edges_in s is (flips_for mode flips)
     → KeptIn mode (look_in mode eye vs is l) tolerance is t u m → splice 0 eqb (pairs_of (take (2 * m) (drop (5 * length is) u))) ≡ drawing_of mode eye tolerance flips vs is
 unfolding drawing_of
-drawing_of_lem mode eye tolerance flips vs is l s t u m words numbers room startRoom F es el et K =
+drawing_of_lem mode eye tolerance flips vs is l s t u m words numbers room start_room F es el et K =
     let w = ap (take (5 * length is)) et ∙ edges_words s is (flips_for mode flips) (omega (arith, F.three, F.few)) (omega (arith, F.three, F.scratch, es)) in
     ap (splice 0 eqb) (K.pairs (flips_for mode flips) w ∙ kept-edges mode eye tolerance flips vs is l F.three (omega (arith, F.seen, el)))
 

@@ -32,11 +32,11 @@ scratch_for faces words numbers = leb (64 * faces) words && leb (4 * faces) numb
 
 -- room for 6 points and 3 starts a face
 unfoldable pub room_for : ℕ → ℕ → ℕ → Bool
-room_for faces room startRoom = leb (6 * faces) room && leb (3 * faces) startRoom
+room_for faces room start_room = leb (6 * faces) room && leb (3 * faces) start_room
 
 -- so many indices are faces, not too many, and all has room
 unfoldable pub fits : ℕ → ℕ → ℕ → ℕ → ℕ → Bool
-fits indices words numbers room startRoom = eqb (indices % 3) 0 && leb (indices / 3) most_faces && scratch_for (indices / 3) words numbers && room_for (indices / 3) room startRoom
+fits indices words numbers room start_room = eqb (indices % 3) 0 && leb (indices / 3) most_faces && scratch_for (indices / 3) words numbers && room_for (indices / 3) room start_room
 
 -- a drawing; nothing is changed where it does not fit, or where an index is that of no vertex
 unfoldable pub strokes_left : List Float → List ℕ → List ℕ → Mode → Vector → Float → List ℕ → List Float → List ℕ → List ℕ → Outcome Lent

@@ -59,10 +59,10 @@ unfoldable pub flips_for : Mode → List ℕ → List ℕ
 flips_for mode flips = cond (needs_of mode).flips flips []
 
 -- what the tests before a drawing promise of a mesh and of what is lent
-pub record Fitting (is : List ℕ) (words numbers room startRoom : ℕ) : Type 0 where
+pub record Fitting (is : List ℕ) (words numbers room start_room : ℕ) : Type 0 where
   pub three : length is % 3 ≡ 0
   pub few : length is / 3 ≤ most_faces
   pub scratch : 64 * (length is / 3) ≤ words
   pub seen : 4 * (length is / 3) ≤ numbers
   pub points : 6 * (length is / 3) ≤ room
-  pub starts : 3 * (length is / 3) ≤ startRoom
+  pub starts : 3 * (length is / 3) ≤ start_room

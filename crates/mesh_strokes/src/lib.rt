@@ -1,5 +1,7 @@
 // The strokes of a drawing, into room that is there: the sides of the mesh by their pairs, the edges that the mode keeps after
 // them, spliced.
+#![tactic(auto)]
+
 ghost use Rattle.std.specs.Prelude.{◌≡◌, true, ◌&&◌, [], ◌∷◌, ◌+◌, ◌-◌, ◌*◌, ◌/◌, ◌<◌, ◌≤◌, length, get_or};
 ghost use Rattle.refusal.specs.Limits.{most_faces};
 ghost use Rattle.refusal.specs.Said.{accepted};

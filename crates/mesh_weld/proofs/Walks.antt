@@ -235,7 +235,7 @@ module _ (vs : List Float) (s : List ℕ) (f : ℕ → ℕ) (m k : ℕ) where
   walks_start best t [] = none
   walks_start best t (home ∷ homes) = more (walk_start home best t) (walks_start best t homes)
 
-  walks_lower : {homes : List Cube} {ws : List Way} (best now : ℕ) → now ≤ best → Walks best homes ws → Walks now homes ws
+  walks_lower : (best now : ℕ) {homes : List Cube} {ws : List Way} → now ≤ best → Walks best homes ws → Walks now homes ws
   walks_lower best now l none = none
   walks_lower best now l (more {home} {homes} {w} {ws} h r) = more (walk-lower home best now w l h) (walks_lower best now l r)
 
@@ -249,13 +249,16 @@ module _ (vs : List Float) (s : List ℕ) (f : ℕ → ℕ) (m k : ℕ) where
 
   pub walks_on : (homes : List Cube) (ws : List Way) (best : ℕ) → Walks best homes ws → Walks (all_worth f best ws) homes (map (onward_of s m) ws)
   walks_on [] [] best none = none
+  walks_on [] (w ∷ ws) best h = elim h [ ]
+  walks_on (home ∷ homes) [] best h = elim h [ ]
   walks_on (home ∷ homes) (w ∷ ws) best (more h r) =
       let now = worth_of f best w in
       more (walk-lower home now (all_worth f now ws) (onward_of s m w) (all_le ws now) (walk-on home best now w h (step s f m best w)))
       (walks_on homes ws now (walks_lower best now (step_le (step s f m best w)) r))
 
   -- where all have ended, all that is in one of the coarse cells is passed
-  pub walks_end : {homes : List Cube} {ws : List Way} (best : ℕ) → Walks best homes ws → nexts ws ≡ 0 → (i : ℕ) → i < k → Among (coarse_at vs i) homes → best ≤ f i
+  pub walks_end : (best : ℕ) {homes : List Cube} {ws : List Way} → Walks best homes ws → nexts ws ≡ 0 → (i : ℕ) → i < k → Among (coarse_at vs i) homes → best ≤ f i
+  walks_end best none e i l h = elim h [ ]
   walks_end best (more {home} {homes} {w} h r) e i l (here q) = walk_end home best w h (omega arith) i l q
   walks_end best (more h r) e i l (after a) = walks_end best r (omega arith) i l a
 
@@ -290,11 +293,11 @@ module _ (vs : List Float) (s : List ℕ) (f : ℕ → ℕ) (m k : ℕ) where
         go (ended e d v) = let a = ap left v in omega arith
         go (met some low le to v) = omega (arith, left_less home best w h some)
 
-    lefts-le : {homes : List Cube} {ws : List Way} (best : ℕ) → Walks best homes ws → lefts (map (onward_of s m) ws) ≤ lefts ws
+    lefts-le : (best : ℕ) {homes : List Cube} {ws : List Way} → Walks best homes ws → lefts (map (onward_of s m) ws) ≤ lefts ws
     lefts-le best none = omega arith
     lefts-le best (more {home} {homes} {w} h r) = omega (arith, lefts-le best r, (left-on home best w h).0)
 
-    pub lefts-less : {homes : List Cube} {ws : List Way} (best : ℕ) → Walks best homes ws → (nexts ws ≡ 0 → ⊥) → lefts (map (onward_of s m) ws) < lefts ws
+    pub lefts-less : (best : ℕ) {homes : List Cube} {ws : List Way} → Walks best homes ws → (nexts ws ≡ 0 → ⊥) → lefts (map (onward_of s m) ws) < lefts ws
     lefts-less best none some = absurd (some refl)
     lefts-less best (more {home} {homes} {w} {ws} h r) some =
         go (eqb w.next 0) refl (left-on home best w h) (lefts-le best r) (lefts-less best r)
@@ -307,13 +310,15 @@ module _ (vs : List Float) (s : List ℕ) (f : ℕ → ℕ) (m k : ℕ) where
 
     pub all-to : (homes : List Cube) (ws : List Way) (best now c : ℕ) → Walks now homes ws → c ≤ best → ((i : ℕ) → i < k → c ≤ f i) → c ≤ all_worth f best ws
     all-to [] [] best now c none l g = l
+    all-to [] (w ∷ ws) best now c h l g = elim h [ ]
+    all-to (home ∷ homes) [] best now c h l g = elim h [ ]
     all-to (home ∷ homes) (w ∷ ws) best now c (more h r) l g = all-to homes ws (worth_of f best w) now c r (go (step s f m best w)) g
       where
         go : {r : ℕ} {v : Way} → Step s f m best w r v → c ≤ r
         go (ended e d v) = omega arith
         go (met some low le to v) = to c (g (w.next - 1) (omega (arith, walk-few home now w h))) l
 
-    pub walks-few : (n : ℕ) → k ≤ n → {homes : List Cube} {ws : List Way} {best : ℕ} → Walks best homes ws → Each (NoMore n) ws
+    pub walks-few : (n : ℕ) → k ≤ n → {best : ℕ} {homes : List Cube} {ws : List Way} → Walks best homes ws → Each (NoMore n) ws
     walks-few n l none = tt
     walks-few n l {best = best} (more {home} {homes} {w} h r) = (omega (arith, walk-few home best w h), walks-few n l r)
 

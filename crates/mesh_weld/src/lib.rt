@@ -1,4 +1,6 @@
 // Welding the corners of faces: which vertex each corner is, by the source's VertexMerger.
+#![tactic(auto)]
+
 pub mod read;
 
 ghost use Rattle.std.specs.Prelude.{◌≡◌, true, ◌+◌, ◌*◌, ◌/◌, ◌^◌, ◌≤◌, ◌<◌, [], ◌∷◌, map, length, replicate, nat_abs};

@@ -27,20 +27,20 @@ accepted-runs : (t : Tally) → verdict_by t ≡ Accepted → stopped_of t ≡ f
 accepted-runs (Left p s) h = refl
 accepted-runs (Met r) h = absurd (let z : ◌≡◌ {A = ℕ} 0 1 = cc in omega arith)
 
-pub record Good (view : View) (ps : List Float) (ss : List ℕ) (room startRoom : ℕ) : Type 0 where
+pub record Good (view : View) (ps : List Float) (ss : List ℕ) (room start_room : ℕ) : Type 0 where
   pub calm : Calm (walks_of view ps ss)
   pub few : length (joined (adapted (walks_of view ps ss))) ≤ most_points
   pub strokes : length ss ≤ most_strokes
   pub fit : length (joined (adapted (walks_of view ps ss))) * 3 ≤ room
-  pub start_fit : length (non_empty (adapted (walks_of view ps ss))) ≤ startRoom
+  pub start_fit : length (non_empty (adapted (walks_of view ps ss))) ≤ start_room
   pub halvings : halvings_of (walks_of view ps ss) ≤ most_points
 
-good : (view : View) (ps : List Float) (ss : List ℕ) (room startRoom : ℕ) → length ss ≤ most_strokes
-    → stopped_of (spent_all (Left (point_room room) startRoom) (walks_of view ps ss)) ≡ false → Good view ps ss room startRoom
+good : (view : View) (ps : List Float) (ss : List ℕ) (room start_room : ℕ) → length ss ≤ most_strokes
+    → stopped_of (spent_all (Left (point_room room) start_room) (walks_of view ps ss)) ≡ false → Good view ps ss room start_room
 unfolding walks_of point_room
-good view ps ss room startRoom few h =
+good view ps ss room start_room few h =
     let strokes = strokes_of (point_at ps) (length ps / 3) ss in
-    let f = all_fine view strokes (min (room / 3) most_points) startRoom h in
+    let f = all_fine view strokes (min (room / 3) most_points) start_room h in
     let n = points_and_halvings view strokes f.calm in
     let a = min-le_left (room / 3) most_points in
     let b = min-le_right (room / 3) most_points in
@@ -53,17 +53,17 @@ good view ps ss room startRoom few h =
       halvings = omega (arith, f.few);
     }
 
-pub adaptive_accepted : (ps : List Float) (ss : List ℕ) (m : Matrix) (width height step tolerance : Float) (room startRoom : ℕ)
-    → verdict_of ps ss m width height step tolerance room startRoom ≡ Accepted → Good (view_of m width height step tolerance) ps ss room startRoom
+pub adaptive_accepted : (ps : List Float) (ss : List ℕ) (m : Matrix) (width height step tolerance : Float) (room start_room : ℕ)
+    → verdict_of ps ss m width height step tolerance room start_room ≡ Accepted → Good (view_of m width height step tolerance) ps ss room start_room
 unfolding verdict_of
-adaptive_accepted ps ss m width height step tolerance room startRoom h =
+adaptive_accepted ps ss m width height step tolerance room start_room h =
     let shape = passed _ _ _ h in
     let count = passed _ _ _ shape.1 in
     let number = passed _ _ _ count.1 in
     let numbers = passed _ _ _ number.1 in
-    good (view_of m width height step tolerance) ps ss room startRoom (few_strokes (length ps / 3) (length ss) count.0) (accepted-runs (spent_all (Left (point_room room) startRoom) (walks_of (view_of m width height step tolerance) ps ss)) numbers.1)
+    good (view_of m width height step tolerance) ps ss room start_room (few_strokes (length ps / 3) (length ss) count.0) (accepted-runs (spent_all (Left (point_room room) start_room) (walks_of (view_of m width height step tolerance) ps ss)) numbers.1)
 
-pub accepted-at : (ps : List Float) (ss : List ℕ) (m : Matrix) (width height step tolerance : Float) (room startRoom : ℕ) {v : View} → v ≡ view_of m width height step tolerance
-    → verdict_of ps ss m width height step tolerance room startRoom ≡ Accepted → Good v ps ss room startRoom
-accepted-at ps ss m width height step tolerance room startRoom e h =
-    subst⁻¹ (λ (v : View). Good v ps ss room startRoom) e (adaptive_accepted ps ss m width height step tolerance room startRoom h)
+pub accepted-at : (ps : List Float) (ss : List ℕ) (m : Matrix) (width height step tolerance : Float) (room start_room : ℕ) {v : View} → v ≡ view_of m width height step tolerance
+    → verdict_of ps ss m width height step tolerance room start_room ≡ Accepted → Good v ps ss room start_room
+accepted-at ps ss m width height step tolerance room start_room e h =
+    subst⁻¹ (λ (v : View). Good v ps ss room start_room) e (adaptive_accepted ps ss m width height step tolerance room start_room h)

@@ -36,18 +36,18 @@ shaped_table : (ps : List Float) (ss : List ℕ) → shaped_of ps ss ≡ true �
 unfolding shaped_of
 shaped_table ps ss h = (both (eqb (length ps % 3) 0) (good_starts (length ps / 3) ss) h).1
 
-accepted-table : (ps : List Float) (ss : List ℕ) (m : Matrix) (width height step tolerance : Float) (room startRoom : ℕ)
-    → verdict_of ps ss m width height step tolerance room startRoom ≡ Accepted → good_starts (length ps / 3) ss ≡ true
+accepted-table : (ps : List Float) (ss : List ℕ) (m : Matrix) (width height step tolerance : Float) (room start_room : ℕ)
+    → verdict_of ps ss m width height step tolerance room start_room ≡ Accepted → good_starts (length ps / 3) ss ≡ true
 unfolding verdict_of
-accepted-table ps ss m width height step tolerance room startRoom h = shaped_table ps ss (passed _ _ _ h).0
+accepted-table ps ss m width height step tolerance room start_room h = shaped_table ps ss (passed _ _ _ h).0
 
-counted-all : (ps : List Float) (ss : List ℕ) (m : Matrix) (width height step tolerance : Float) (room startRoom : ℕ)
-    → verdict_of ps ss m width height step tolerance room startRoom ≡ Accepted
+counted-all : (ps : List Float) (ss : List ℕ) (m : Matrix) (width height step tolerance : Float) (room start_room : ℕ)
+    → verdict_of ps ss m width height step tolerance room start_room ≡ Accepted
     → length (joined (adapted (walks_of (view_of m width height step tolerance) ps ss))) ≡ length ps / 3 + halvings_of (walks_of (view_of m width height step tolerance) ps ss)
 unfolding walks_of
-counted-all ps ss m width height step tolerance room startRoom h =
-    let g = adaptive_accepted ps ss m width height step tolerance room startRoom h in
-    let t = accepted-table ps ss m width height step tolerance room startRoom h in
+counted-all ps ss m width height step tolerance room start_room h =
+    let g = adaptive_accepted ps ss m width height step tolerance room start_room h in
+    let t = accepted-table ps ss m width height step tolerance room start_room h in
     points_and_halvings (view_of m width height step tolerance) (strokes_of (point_at ps) (length ps / 3) ss) g.calm
     ∙ ap (λ (n : ℕ). n + halvings_of (walks_of (view_of m width height step tolerance) ps ss)) (table_all (point_at ps) (length ps / 3) ss t)
 

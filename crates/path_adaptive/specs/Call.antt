@@ -33,12 +33,12 @@ unfoldable pub point_room : ℕ → ℕ
 point_room room = min (room / 3) most_points
 
 unfoldable pub verdict_of : List Float → List ℕ → Matrix → Float → Float → Float → Float → ℕ → ℕ → Verdict
-verdict_of ps ss m width height step tolerance room startRoom =
+verdict_of ps ss m width height step tolerance room start_room =
     unless (shaped_of ps ss) Shape
     (unless (counted_of (length ps / 3) (length ss)) Count
     (unless (coordinates_good ps) Number
     (unless (numbers_good m width height step tolerance) Number
-    (verdict_by (spent_all (T.Left (point_room room) startRoom) (walks_of (view_of m width height step tolerance) ps ss))))))
+    (verdict_by (spent_all (T.Left (point_room room) start_room) (walks_of (view_of m width height step tolerance) ps ss))))))
 
 unfoldable pub adaptive_left : List Float → List ℕ → Matrix → Float → Float → Float → Float → List Float → List ℕ → Outcome Lent
 adaptive_left ps ss m width height step tolerance op os =

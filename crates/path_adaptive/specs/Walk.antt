@@ -6,7 +6,7 @@ use Rattle.vector.specs.declared.Vector.{Vector}
 use Rattle.vector.specs.declared.matrix.Matrix.{Matrix}
 use Rattle.vector.specs.Vectors.{add_of, mul_scalar_of, distance_squared_of}
 use Rattle.vector.specs.Lengths.{zero64}
-use Rattle.vector.specs.Matrices.{mul_position_wOf}
+use Rattle.vector.specs.Matrices.{mul_position_w_of}
 use Rattle.path.specs.Strokes.{point_at, strokes_of}
 use Rattle.path_adaptive.specs.declared.View.{View}
 use Rattle.path_adaptive.specs.declared.Shown.{Shown}
@@ -16,7 +16,7 @@ view_of m width height step tolerance = record { matrix = m; width = width; heig
 
 -- a point with its place on the screen
 abbrev pub shown_of : View → Vector → Shown
-shown_of view v = record { here = v; seen = mul_position_wOf view.matrix v }
+shown_of view v = record { here = v; seen = mul_position_w_of view.matrix v }
 
 -- the middle of two points
 abbrev pub middle_of : View → Shown → Shown → Shown

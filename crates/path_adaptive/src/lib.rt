@@ -1,5 +1,7 @@
 // Halving the spans of strokes until they are short on the screen: path_chop_adaptive of the source, over lent lists.
 // A call is walked twice, by the same steps: `measure` counts and touches nothing, and `write` then writes what fits.
+#![tactic(auto)]
+
 mod measure;
 mod screen;
 mod write;

@@ -155,17 +155,17 @@ third_holds true false = refl
 third_holds false y = refl
 
 -- the three tests of `room_for`, where `kept` starts would be written
-module _ (ss : List (List Vector)) (room startRoom kept : ℕ) (k : kept ≡ length (non_empty ss)) where
-  pub starts_short : startRoom < kept → false ≡ room_for ss room startRoom
+module _ (ss : List (List Vector)) (room start_room kept : ℕ) (k : kept ≡ length (non_empty ss)) where
+  pub starts_short : start_room < kept → false ≡ room_for ss room start_room
   unfolding room_for
-  starts_short h = rw (lt-leb (length (non_empty ss)) startRoom (omega arith)) (third_fails (leb (length (joined ss)) most_points) (leb (length (joined ss) * 3) room))
+  starts_short h = rw (lt-leb (length (non_empty ss)) start_room (omega arith)) (third_fails (leb (length (joined ss)) most_points) (leb (length (joined ss) * 3) room))
 
-  starts_fit : kept ≤ startRoom → leb (length (joined ss)) most_points && leb (length (joined ss) * 3) room ≡ room_for ss room startRoom
+  starts_fit : kept ≤ start_room → leb (length (joined ss)) most_points && leb (length (joined ss) * 3) room ≡ room_for ss room start_room
   unfolding room_for
-  starts_fit h = rw (le-leb (length (non_empty ss)) startRoom (omega arith)) (third_holds (leb (length (joined ss)) most_points) (leb (length (joined ss) * 3) room))
+  starts_fit h = rw (le-leb (length (non_empty ss)) start_room (omega arith)) (third_holds (leb (length (joined ss)) most_points) (leb (length (joined ss) * 3) room))
 
-  pub by_bound : kept ≤ startRoom → (b : ℕ) → capped (length (joined ss)) ≤ b → leb b most_points && leb (b * 3) room ≡ true → true ≡ room_for ss room startRoom
+  pub by_bound : kept ≤ start_room → (b : ℕ) → capped (length (joined ss)) ≤ b → leb b most_points && leb (b * 3) room ≡ true → true ≡ room_for ss room start_room
   by_bound h b l e = sym (bound_enough (length (joined ss)) b room l e) ∙ starts_fit h
 
-  pub by_count : kept ≤ startRoom → (c : ℕ) → c ≡ capped (length (joined ss)) → leb c most_points && leb (c * 3) room ≡ room_for ss room startRoom
+  pub by_count : kept ≤ start_room → (c : ℕ) → c ≡ capped (length (joined ss)) → leb c most_points && leb (c * 3) room ≡ room_for ss room start_room
   by_count h c e = count-enough (length (joined ss)) c room e ∙ starts_fit h

@@ -53,9 +53,9 @@ module _ (k n : ℕ) (step : Float) where
       ap (λ (x : List Vector). x ∷ map (chopped (k + n) step) ss) (chopped-same s (omega arith))
       ∙ ap (λ (x : List (List Vector)). chopped k step s ∷ x) (strokes_same ss (omega arith))
 
-pub never_cut_off : (ps : List Float) (ss : List ℕ) (step : Float) (room startRoom : ℕ) → verdict_of ps ss step room startRoom ≡ Accepted
+pub never_cut_off : (ps : List Float) (ss : List ℕ) (step : Float) (room start_room : ℕ) → verdict_of ps ss step room start_room ≡ Accepted
     → (n : ℕ) → chopped_by (too_many + n) step ps ss ≡ chopped_of step ps ss
 unfolding chopped_by
-never_cut_off ps ss step room startRoom h n =
-    let few = (chop_accepted ps ss step room startRoom h).0 in
+never_cut_off ps ss step room start_room h n =
+    let few = (chop_accepted ps ss step room start_room h).0 in
     strokes_same too_many n step (strokes_of (point_at ps) (length ps / 3) ss) (omega arith)

@@ -22,15 +22,15 @@ said (C.Refused r) = refused r
 
 -- not too many points in all, three numbers of room a point, and room for every start
 unfoldable pub room_for : List (List Vector) → ℕ → ℕ → Bool
-room_for ss room startRoom = leb (length (joined ss)) most_points && leb (length (joined ss) * 3) room && leb (length (non_empty ss)) startRoom
+room_for ss room start_room = leb (length (joined ss)) most_points && leb (length (joined ss) * 3) room && leb (length (non_empty ss)) start_room
 
 unfoldable pub verdict_of : List Float → List ℕ → Float → ℕ → ℕ → Verdict
-verdict_of ps ss step room startRoom =
+verdict_of ps ss step room start_room =
     unless (shaped_of ps ss) Shape
     (unless (counted_of (length ps / 3) (length ss)) Count
     (unless (coordinates_good ps) Number
     (unless (step_good step) Number
-    (unless (room_for (chopped_of step ps ss) room startRoom) Room
+    (unless (room_for (chopped_of step ps ss) room start_room) Room
     Accepted))))
 
 unfoldable pub chop_left : List Float → List ℕ → Float → List Float → List ℕ → Outcome Lent

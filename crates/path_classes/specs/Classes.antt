@@ -45,11 +45,11 @@ module _ {A : Type 0} (same : A → A → Bool) (at : ℕ → A) where
 -- ---- what is left in scratch
 
 -- words of scratch a point
-abbrev pub words_aPoint : ℕ
-words_aPoint = 6
+abbrev pub words_a_point : ℕ
+words_a_point = 6
 
 -- the class of each of the m points of a list, then zeros; nothing is changed where there are too many points, or too few words
 unfoldable pub numbered : List Float → ℕ → List ℕ → List ℕ
 numbered ps m s =
     let t = put s 0 (gather (class_of same_point (point_at ps)) 0 m ++ replicate (5 * m) 0) in
-    cond (nat_le m (2 * most_strokes) && nat_le (words_aPoint * m) (length s)) t s
+    cond (nat_le m (2 * most_strokes) && nat_le (words_a_point * m) (length s)) t s

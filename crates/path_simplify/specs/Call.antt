@@ -31,16 +31,16 @@ threshold_good t = le zero64 t
 
 -- room for as many points and starts as there are
 unfoldable pub room_for : ℕ → ℕ → ℕ → ℕ → Bool
-room_for numbers starts room startRoom = leb numbers room && leb starts startRoom
+room_for numbers starts room start_room = leb numbers room && leb starts start_room
 
 unfoldable pub verdict_of : List Float → List ℕ → Float → ℕ → ℕ → Verdict
-verdict_of ps ss t room startRoom =
+verdict_of ps ss t room start_room =
     unless (shaped_of ps ss) Shape
     (unless (counted_of (length ps / 3) (length ss)) Count
     (unless (short_of (length ps / 3) ss) Count
     (unless (coordinates_good ps) Number
     (unless (threshold_good t) Number
-    (unless (room_for (length ps) (length ss) room startRoom) Room
+    (unless (room_for (length ps) (length ss) room start_room) Room
     Accepted)))))
 
 unfoldable pub simplify_left : List Float → List ℕ → Float → List Float → List ℕ → Outcome Lent

@@ -98,9 +98,9 @@ module _ {A : Type 0} (same : A → A → Bool) (law : Law same) where
       let a = p.0 in
       let b = p.1 in
       let R = extract (on (is_pair same a b)) p Q (λ z. omega (arith, h a b, pair_self a b)) in
-      let eachOf : (k : A → A → ℕ) → ((x y : A) → k x y ≡ k y x) → sum (on k) Q ≡ k a b + sum (on k) R.rest = λ k s. R.takes (on k) (λ z n. pair_near k s a b z.0 z.1 n) in
-      let r = bag P R.rest (λ x y. omega (arith, h x y, eachOf (is_pair same x y) (pair_turn x y))) g c in
-      omega (arith, eachOf g c)
+      let each_of : (k : A → A → ℕ) → ((x y : A) → k x y ≡ k y x) → sum (on k) Q ≡ k a b + sum (on k) R.rest = λ k s. R.takes (on k) (λ z n. pair_near k s a b z.0 z.1 n) in
+      let r = bag P R.rest (λ x y. omega (arith, h x y, each_of (is_pair same x y) (pair_turn x y))) g c in
+      omega (arith, each_of g c)
 
   pub bags : (S T : List (List A)) → ((a b : A) → drawn same a b S ≡ drawn same a b T) → (g : A → A → ℕ) → ((x y : A) → g x y ≡ g y x) → sum (over_pairs g) S ≡ sum (over_pairs g) T
   unfolding drawn
@@ -175,9 +175,9 @@ module _ {A : Type 0} (same : A → A → Bool) (law : Law same) where
   fewer (x ∷ l) m h =
       let self : one (same x x) ≡ 1 = rw (law.self x) in
       let R = extract (λ z. one (same x z)) x m (λ k. omega (arith, h x)) in
-      let eachOf : (k : A → ℕ) → sum k m ≡ k x + sum k R.rest = λ k. R.takes k (λ z n. ap k (sym (law.eq x z (one-true (same x z) n)))) in
-      let r = fewer l R.rest (λ v. omega (arith, h v, eachOf (λ z. one (same v z)))) in
-      omega (arith, eachOf (λ z. 1))
+      let each_of : (k : A → ℕ) → sum k m ≡ k x + sum k R.rest = λ k. R.takes k (λ z n. ap k (sym (law.eq x z (one-true (same x z) n)))) in
+      let r = fewer l R.rest (λ v. omega (arith, h v, each_of (λ z. one (same v z)))) in
+      omega (arith, each_of (λ z. 1))
 
   -- strokes with fewer ends of open strokes at every vertex have fewer open strokes
   pub fewer_open : (S T : List (List A)) → ((v : A) → ends_open same v S ≤ ends_open same v T) → open_count same S ≤ open_count same T

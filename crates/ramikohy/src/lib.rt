@@ -4,7 +4,7 @@
 ghost use Rattle.std.specs.Prelude.{◌≡◌};
 ghost use Rattle.vector.specs.Vectors.{add_of, sub_of, mul_of, div_of, add_scalar_of, sub_scalar_of, mul_scalar_of, div_scalar_of, dot_of, cross_of, length_squared_of, distance_squared_of};
 ghost use Rattle.vector.specs.Lengths.{length_of, distance_of, unit_of, segment_distance_of};
-ghost use Rattle.vector.specs.Matrices.{mul_position_wOf};
+ghost use Rattle.vector.specs.Matrices.{mul_position_w_of};
 ghost use Rattle.vector.specs.Floor.{floor_of};
 ghost use Rattle.vector.specs.Root.{root_of};
 ghost use Rattle.vector.specs.Abs.{abs_of};
@@ -236,7 +236,7 @@ pub extern "C" fn ramikohy_segment_distance(a: &[f64; 3], v: &[f64; 3], w: &[f64
 // a under the matrix m, divided by w.
 #[unsafe(no_mangle)]
 pub extern "C" fn ramikohy_mul_position_w(m: &[f64; 16], a: &[f64; 3], out: &mut [f64; 3])
-    ensures { point_of out.new ≡ mul_position_wOf (matrix_of m.now) (point_of a.now) }
+    ensures { point_of out.new ≡ mul_position_w_of (matrix_of m.now) (point_of a.now) }
 {
     put(matrix(m).mul_position_w(point(a)), out);
 }

@@ -1,4 +1,6 @@
 // The text of a sheet: a line of mode, vertices, strokes and points, then a line a stroke.
+#![tactic(auto)]
+
 ghost use Rattle.std.specs.Prelude.{◌≡◌, true, ◌+◌, ◌-◌, ◌*◌, ◌≤◌, get_or};
 ghost use Rattle.std.proofs.lemmas.List.Edits.{sets};
 ghost use Rattle.path.specs.Strokes.{gather, strokes_of};

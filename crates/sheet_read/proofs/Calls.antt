@@ -39,17 +39,17 @@ module _ (bs : List ℕ) (s n : ℕ) (es : s ≡ stroke_count bs) (en : n ≡ po
   below-is k v ek ev = let e : k + n - k ≡ n = omega arith in rw e (rw (ek, es, en, ev))
 
 -- what an accepted call has been tested for
-pub record Granted (bs : List ℕ) (room startRoom : ℕ) : Type 0 where
+pub record Granted (bs : List ℕ) (room start_room : ℕ) : Type 0 where
   pub strokes : stroke_count bs ≤ most_strokes
   pub points : point_count bs ≤ most_points
   pub room_points : point_count bs ≤ room
-  pub room_starts : stroke_count bs ≤ startRoom
+  pub room_starts : stroke_count bs ≤ start_room
 
-pub granted : (bs : List ℕ) (room startRoom : ℕ) → verdict_of bs room startRoom ≡ Accepted → Granted bs room startRoom
+pub granted : (bs : List ℕ) (room start_room : ℕ) → verdict_of bs room start_room ≡ Accepted → Granted bs room start_room
 unfolding verdict_of is_sheet room_for
-granted bs room startRoom h =
+granted bs room start_room h =
     let sheet = passed _ _ _ h in
-    let fit = both (leb (point_count bs) room) (leb (stroke_count bs) startRoom) (passed _ _ _ sheet.1).0 in
+    let fit = both (leb (point_count bs) room) (leb (stroke_count bs) start_room) (passed _ _ _ sheet.1).0 in
     let b = both (header_good bs && table_good (point_count bs) (starts_in bs)) (all_below (vertices_in bs) (numbers_in bs)) sheet.0 in
     let few = header_limits bs (both (header_good bs) (table_good (point_count bs) (starts_in bs)) b.0).0 in
     record { strokes = few.0; points = few.1; room_points = leb-true _ _ fit.0; room_starts = leb-true _ _ fit.1 }

@@ -13,11 +13,11 @@ use Rattle.sheet_read.specs.declared.SheetRead.TheVariants as R
 
 -- room for the points and strokes in the header
 unfoldable pub room_for : List ℕ → ℕ → ℕ → Bool
-room_for bs room startRoom = leb (point_count bs) room && leb (stroke_count bs) startRoom
+room_for bs room start_room = leb (point_count bs) room && leb (stroke_count bs) start_room
 
 -- bytes that are no sheet are tested before room
 unfoldable pub verdict_of : List ℕ → ℕ → ℕ → Verdict
-verdict_of bs room startRoom = unless (is_sheet bs) Sheet (unless (room_for bs room startRoom) Room Accepted)
+verdict_of bs room start_room = unless (is_sheet bs) Sheet (unless (room_for bs room start_room) Room Accepted)
 
 -- the answer's number and values: points and starts written, mode and vertices
 abbrev pub said : SheetRead → Said ℕ

@@ -1,4 +1,6 @@
 // Writing strokes of vertex numbers as a sheet.
+#![tactic(auto)]
+
 ghost use Rattle.std.specs.Prelude.{◌≡◌, ◌+◌, ◌*◌, ◌<◌, ◌≤◌, length, get_or, leb, ltb};
 ghost use Rattle.std.proofs.lemmas.List.Edits.{sets};
 ghost use Rattle.refusal.specs.Limits.{most_strokes, most_points};
@@ -16,7 +18,7 @@ use sheet::{
 };
 
 // What writing a sheet answers: how many bytes were written, or why none were.
-#[derive(Drop)]
+#[derive(Clone, Copy)]
 pub enum SheetWritten {
     Wrote { bytes: usize },
     Refused(Refusal),

@@ -52,8 +52,8 @@ tenth = 0x3fb9_9999_9999_999a
 abbrev pub long : ℕ
 long = 0x3ff0_0000_1000_0000
 
-abbrev pub not_aNumber : ℕ
-not_aNumber = 0x7ff8_0000_0000_0000
+abbrev pub not_a_number : ℕ
+not_a_number = 0x7ff8_0000_0000_0000
 
 -- ---- vertices and files
 
@@ -85,7 +85,7 @@ worked =
     ∷ refuses (three (tenth ∷ 0 ∷ 0 ∷ [])) (0 ∷ 1 ∷ 3 ∷ []) 134 Number  -- that a face names
     ∷ refuses (three (0 ∷ below_least ∷ 0 ∷ [])) (0 ∷ 1 ∷ 3 ∷ []) 134 Number
     ∷ refuses (three (0 ∷ 0 ∷ long ∷ [])) (0 ∷ 1 ∷ 3 ∷ []) 134 Number
-    ∷ refuses (three (0 ∷ not_aNumber ∷ 0 ∷ [])) first 134 Number  -- NaN of a vertex that no face names
+    ∷ refuses (three (0 ∷ not_a_number ∷ 0 ∷ [])) first 134 Number  -- NaN of a vertex that no face names
     ∷ refuses (three (0 ∷ past_most ∷ 0 ∷ [])) first 134 Number  -- past the bound, so too
     ∷ refuses (three []) first 133 Room
     ∷ []

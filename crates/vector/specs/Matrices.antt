@@ -10,8 +10,8 @@ use Rattle.vector.specs.Vectors.{vec, div_scalar_of}
 abbrev pub row_of : Float → Float → Float → Float → Vector → Float
 row_of p q r s b = add binary64 (add binary64 (add binary64 (mul binary64 p b.x) (mul binary64 q b.y)) (mul binary64 r b.z)) s
 
-abbrev pub mul_position_wOf : Matrix → Vector → Vector
-mul_position_wOf m b =
+abbrev pub mul_position_w_of : Matrix → Vector → Vector
+mul_position_w_of m b =
     div_scalar_of
     (vec
     (row_of m.x00 m.x01 m.x02 m.x03 b)

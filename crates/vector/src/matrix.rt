@@ -1,6 +1,6 @@
 // A matrix of sixteen f64, of the source's matrix.rs: what `chop_adaptive` needs of it.
 ghost use Rattle.std.specs.Prelude.{◌≡◌};
-ghost use Rattle.vector.specs.Matrices.{mul_position_wOf};
+ghost use Rattle.vector.specs.Matrices.{mul_position_w_of};
 
 use crate::Vector;
 
@@ -27,7 +27,7 @@ pub struct Matrix {
 impl Matrix {
     // A position with perspective divide; where w is 0 the quotients are infinities or NaN.
     pub fn mul_position_w(self, b: Vector) -> Vector
-        ensures { result ≡ mul_position_wOf self b }
+        ensures { result ≡ mul_position_w_of self b }
     {
         let x = self.x00 * b.x + self.x01 * b.y + self.x02 * b.z + self.x03;
         let y = self.x10 * b.x + self.x11 * b.y + self.x12 * b.z + self.x13;

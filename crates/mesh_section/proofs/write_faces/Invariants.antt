@@ -1,0 +1,21 @@
+-- `write_faces` meets its contract. Pushing the strokes of the faces from f on from here leaves what pushing all
+-- leaves, and so far there are at most a stroke and two points a face; the faces that are left fall.
+use mathlib.Core.Path.{◌≡◌, refl, sym, ap, ◌∙◌}
+use Prim.Native.Nat.{◌-◌, ◌*◌, ◌≤◌}
+use native.Mathlib.Omega.{arith}
+use lib.ListN.{length}
+use Rattle.path.specs.InnerPushes.{out, push, push_all, put_points}
+use Rattle.path.proofs.Pushes.{push-turn, push-end}
+use Rattle.mesh.specs.Meshes.{face_at}
+use Rattle.mesh_section.specs.declared.Cut.{Cut}
+use Rattle.mesh_section.specs.Section.{triangle_cut, cut_stroke, faces_cut}
+use Rattle.mesh_section.proofs.Faces.{faces_more, faces_none}
+use Rattle.mesh_section.proofs.write_faces.Given as goal
+
+abbrev pub invariant-loop-f : goal.invariant-loop-f
+invariant-loop-f l = (l.f ≤ l.n) × (l.p.points ≤ 2 * l.f) × (l.p.starts ≤ l.f) × (length l.out_points ≡ length l.initial.out_points) × (length l.out_starts ≡ length l.initial.out_starts)
+    × (push_all put_points (out l.out_points l.out_starts l.p) (faces_cut (face_at l.vertices l.indices) l.plane l.tolerance l.f (l.n - l.f))
+    ≡ push_all put_points (out l.initial.out_points l.initial.out_starts l.initial.p) (faces_cut (face_at l.vertices l.indices) l.plane l.tolerance 0 l.n))
+
+abbrev pub decreases-loop-f : goal.decreases-loop-f
+decreases-loop-f l = l.n - l.f

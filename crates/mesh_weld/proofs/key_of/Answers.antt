@@ -1,0 +1,35 @@
+-- `key_of` meets its contract: the cell is the floor's answer, and what is counted up from it fits.
+use mathlib.Core.Path.{◌≡◌, sym, ap, ◌∙◌, subst}
+use Prim.Native.Nat.{ℕ, ◌^◌, ◌≤◌}
+use native.Mathlib.Omega.{arith}
+use lib.IntN.{ℤ, nat_abs}
+use Rattle.vector.specs.Answers.{whole_said}
+use Rattle.mesh_weld.specs.Weld.{cell}
+use Rattle.mesh_weld.specs.InnerTable.{key, count}
+use Rattle.mesh_weld.proofs.Cells.{read, cell-le, cell-told, key-pos, key-lt}
+use Rattle.mesh_weld.proofs.key_of.Goals as goal
+
+pub counted-requires : goal.counted-requires
+counted-requires c =
+    let z = c.in-Of.z in
+    let x = c.args.x in
+    let e : z ≡ cell x = cell-told x _ (ap whole_said (sym c.in-Of.is) ∙ c.floor.ensures) in
+    let h : nat_abs z ≤ 2 ^ 53 = rw e (cell-le x) in
+    rw (read z h) h
+
+pub returns-in-Of : goal.returns-in-Of
+unfolding key
+returns-in-Of c =
+    let x = c.args.x in
+    let z = c.in-Of.z in
+    let e : z ≡ cell x = cell-told x _ (ap whole_said (sym c.in-Of.is) ∙ c.floor.ensures) in
+    let h : nat_abs z ≤ 2 ^ 53 = rw e (cell-le x) in
+    let r : c.counted.result ≡ key x = c.counted.ensures ∙ ap count (read z h ∙ e) in
+    (r, omega (arith, key-pos x), omega (arith, key-lt x))
+
+pub returns-in-Refused : goal.returns-in-Refused
+unfolding key
+returns-in-Refused c =
+    let x = c.args.x in
+    let r : c.counted-in-Refused.result ≡ key x = c.counted-in-Refused.ensures ∙ ap count (cell-told x _ (ap whole_said (sym c.in-Refused.is) ∙ c.floor.ensures)) in
+    (r, omega (arith, key-pos x), omega (arith, key-lt x))

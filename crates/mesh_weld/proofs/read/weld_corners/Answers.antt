@@ -1,0 +1,48 @@
+use Rattle.path.specs.Strokes.{point_at}
+use Rattle.stl.specs.Files.{coordinates_in}
+use Rattle.stl.proofs.Corners.{length-coordinates, corner_point}
+use Rattle.mesh_weld.proofs.Loop.{built_all}
+use mathlib.Core.Path.{◌≡◌, refl, sym, ap, ◌∙◌, subst}
+use mathlib.Core.List.{List, ◌++◌, [], ◌∷◌}
+use Prim.Native.Nat.{ℕ, zero-le, suc, ◌+◌, ◌*◌, ◌-◌, ◌^◌, ◌/◌, ◌%◌, ◌≤◌, ◌<◌}
+use native.Mathlib.Omega.{arith}
+use native.Mathlib.Numerals.{add-one}
+use lib.ListN.{length, get_or, set, length-set, replicate}
+use lib.Ieee.{Float}
+use Rattle.mesh_weld.specs.Weld.{weld_of, weld_to}
+use Rattle.mesh_weld.specs.InnerTable.{Placed, Ready}
+use Rattle.mesh_weld.specs.InnerTable.{Laid}
+use Rattle.mesh_weld.proofs.Loop.{Built, built_none, built-more}
+use Rattle.mesh_weld.proofs.read.weld_corners.Goals as goal
+
+pub overflow_mul-m : goal.overflow_mul-m
+overflow_mul-m c = omega arith
+
+pub loop-i-init : goal.loop-i-init
+loop-i-init c = (zero-le, refl, refl, refl, built_none (coordinates_in c.args.bytes.now) c.args.vertices.now c.args.indices.now (c.args.n * 2) c.args.scratch.now c.requires.scratch_value)
+
+pub get_or_insert-k-requires : goal.get_or_insert-k-requires
+get_or_insert-k-requires c =
+    let b = c.loop-i.invariant.4 in
+    let p = c.requires.n_value in record { ready = record { table = b.table; room = omega (arith, b.few, p, c.loop-i.invariant); points = omega (arith, b.few, p, c.loop-i.invariant); some = omega (arith, p); few = omega (arith, p); small = omega (arith, b.few, p, c.loop-i.invariant) }; count_in_bounds = (omega (arith, b.few, p, c.loop-i.invariant), omega (arith, p, c.loop-i.invariant), omega (arith, b.few, p, c.loop-i.invariant)) }
+
+pub overflow_add-i : goal.overflow_add-i
+overflow_add-i c = omega arith
+
+pub loop-i-smaller : goal.loop-i-smaller
+loop-i-smaller c = omega arith
+
+pub loop-i-preserved : goal.loop-i-preserved
+loop-i-preserved c =
+    let p : Placed c.loop-i.vertices c.loop-i.indices (c.args.n * 2) c.loop-i.k c.loop-i.i (point_at (coordinates_in c.args.bytes.now) c.loop-i.i) c.get_or_insert-k.new.scratch c.get_or_insert-k.new.vertices c.get_or_insert-k.new.indices c.get_or_insert-k.result =
+    rw (c.corner_in.ensures ∙ corner_point c.args.bytes.now c.loop-i.i (omega (arith, c.requires.n_value, c.loop-i-test.true))) at c.get_or_insert-k.ensures in (
+      omega (arith, c.loop-i-test.true),
+      c.get_or_insert-k.auto.scratch ∙ c.loop-i.invariant.1,
+      c.get_or_insert-k.auto.vertices ∙ c.loop-i.invariant.2,
+      c.get_or_insert-k.auto.indices ∙ c.loop-i.invariant.3,
+      built-more (coordinates_in c.args.bytes.now) c.args.vertices.now c.args.indices.now (c.args.n * 2) c.loop-i.i c.loop-i.k c.loop-i.scratch c.loop-i.vertices c.loop-i.indices c.loop-i.invariant.4
+          (omega (arith, c.requires.n_value, c.loop-i.invariant.0)) c.get_or_insert-k.new.scratch c.get_or_insert-k.new.vertices c.get_or_insert-k.new.indices c.get_or_insert-k.result p,
+    )
+
+pub returns : goal.returns
+returns c = built_all (coordinates_in c.args.bytes.now) c.args.vertices.now c.args.indices.now _ c.loop-i.i c.args.n c.loop-i.scratch c.loop-i.vertices c.loop-i.indices c.loop-i.k c.loop-i.invariant.4 (omega arith) (omega (arith, length-coordinates c.args.bytes.now, c.requires.n_value)) (omega (arith, c.requires.n_value))
