@@ -8,7 +8,7 @@ use native.Mathlib.Omega.{arith}
 use lib.Dec.{T, eqb, ltb, leb, eqb→eq}
 use lib.Pow.{pow-add}
 use lib.IntN.{ℤ, pos, negsuc}
-use lib.Ieee.{Float, fin, binary64, prec, emax, low, up, down, level, fits, eq}
+use lib.Ieee.{nan, inf, Float, fin, binary64, prec, emax, low, up, down, level, fits, eq}
 use lib.Ieee.Back.{whole_unique}
 use lib.Ieee.Fits.{and_l, and_r, up_pos, down_pos}
 use lib.Ieee.Scale.{finite}
@@ -85,6 +85,12 @@ both_some s t m n e d f g h =
 
 equal_same : (x y : Float) → T (fits binary64 x) → T (fits binary64 y) → T (no_minus_zero x) → T (no_minus_zero y) → T (finite x) → T (finite y) → eq x y ≡ true → x ≡ y
 unfolding eq
+equal_same nan y f g a b u w h = elim u [ ]
+equal_same (inf _) y f g a b u w h = elim u [ ]
+equal_same (fin s zero e) nan f g a b u w h = elim w [ ]
+equal_same (fin s zero e) (inf _) f g a b u w h = elim w [ ]
+equal_same (fin s (suc m) e) nan f g a b u w h = elim w [ ]
+equal_same (fin s (suc m) e) (inf _) f g a b u w h = elim w [ ]
 equal_same (fin s zero e) (fin t zero d) f g a b u w h = whole_unique binary64 (fin s zero e) (fin t zero d) false 0 f g (zero_sign s e a, zero_value e) (zero_sign t d b, zero_value d)
 equal_same (fin s zero e) (fin t (suc n) d) f g a b u w h = absurd (omega (arith, value_eq s t 0 (suc n) e d h, none e d, some n d e))
 equal_same (fin s (suc m) e) (fin t zero d) f g a b u w h = absurd (omega (arith, value_eq s t (suc m) 0 e d h, none d e, some m e d))
@@ -96,6 +102,8 @@ sign_self false c = refl
 
 equal_self : (x : Float) → T (finite x) → eq x x ≡ true
 unfolding eq
+equal_self nan h = elim h [ ]
+equal_self (inf _) h = elim h [ ]
 equal_self (fin s m e) h = both (eqb-self (m * up e * down e)) (sign_self s (eqb (m * up e * down e) 0))
 
 -- ---- the statement

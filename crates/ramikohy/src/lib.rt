@@ -1,6 +1,8 @@
 // Every call for C and Rust, and nothing else. A point is an array of three f64, a matrix one of sixteen, row by row.
 // A function that can refuse answers a status, 0 or the refusal's number, and a refusal leaves the place of the value as it was;
 // the others answer the value itself, or write the point to their last parameter.
+#![tactic(auto)]
+
 ghost use Rattle.std.specs.Prelude.{◌≡◌};
 ghost use Rattle.vector.specs.Vectors.{add_of, sub_of, mul_of, div_of, add_scalar_of, sub_scalar_of, mul_scalar_of, div_scalar_of, dot_of, cross_of, length_squared_of, distance_squared_of};
 ghost use Rattle.vector.specs.Lengths.{length_of, distance_of, unit_of, segment_distance_of};

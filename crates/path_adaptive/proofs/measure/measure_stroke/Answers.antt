@@ -20,10 +20,9 @@ returns-in-Left c =
     let p = c.show-first.result in
     let w = stroke_some c.args.view (point_at c.args.points.now) c.args.a c.args.e _ p (omega (arith, c.if-e-a.false)) refl (c.show-first.ensures ∙ ap (shown_of c.args.view) c.point_at.ensures) in
     let r = walk_from c.args.view p (gather (point_at c.args.points.now) (c.args.a + 1) (c.args.e - (c.args.a + 1))) in
-    let g = c.s-1.given in
     let s = c.spend-s.ensures ∙ ap pointed c.begin.ensures in
-    let few = first-less c.args.t _ c.point_at.result s g.1 in
-    c.tally_of.ensures ∙ c.measure_spans.ensures _ ∙ ap (λ (x : Tally). spent x r) (points_left_lem _ _ (omega (arith, c.requires)) ∙ sym g.1) ∙ stroke_goes c.args.t _ _ r _ w s
+    let few = first-less c.args.t _ c.point_at.result s c.in-Left.is in
+    c.tally_of.ensures ∙ c.measure_spans.ensures _ ∙ ap (λ (x : Tally). spent x r) (points_left_lem _ _ (omega (arith, c.requires)) ∙ sym c.in-Left.is) ∙ stroke_goes c.args.t _ _ r _ w s
 
 pub returns-in-Met : goal.returns-in-Met
 returns-in-Met c =

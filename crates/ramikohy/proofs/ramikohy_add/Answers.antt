@@ -1,0 +1,6 @@
+-- `ramikohy_add` meets its contract, by those of what it calls.
+
+use Rattle.ramikohy.proofs.ramikohy_add.Goals as goal
+
+pub returns : goal.returns
+returns c = rw (c.put.ensures, c.add.ensures, c.point-2.ensures, c.point.ensures)

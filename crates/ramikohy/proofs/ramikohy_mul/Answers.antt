@@ -1,0 +1,6 @@
+-- `ramikohy_mul` meets its contract, by those of what it calls.
+
+use Rattle.ramikohy.proofs.ramikohy_mul.Goals as goal
+
+pub returns : goal.returns
+returns c = rw (c.put.ensures, c.mul.ensures, c.point-2.ensures, c.point.ensures)

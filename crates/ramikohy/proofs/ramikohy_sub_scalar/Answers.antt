@@ -1,0 +1,6 @@
+-- `ramikohy_sub_scalar` meets its contract, by those of what it calls.
+
+use Rattle.ramikohy.proofs.ramikohy_sub_scalar.Goals as goal
+
+pub returns : goal.returns
+returns c = rw (c.put.ensures, c.sub_scalar.ensures, c.point.ensures)

@@ -1,0 +1,20 @@
+-- `write_more` meets its contract. Writing the words from the i-th on from here leaves what writing all leaves, and so
+-- far there are at most 11 bytes a word; the words that are left fall.
+use mathlib.Core.Path.{◌≡◌, refl}
+use Prim.Native.Nat.{◌+◌, ◌-◌, ◌*◌, ◌≤◌}
+use native.Mathlib.Omega.{arith}
+use lib.ListN.{length}
+use lib.Seq.{sets}
+use Rattle.path.specs.Strokes.{gather}
+use Rattle.path.specs.Courses.{course, advanced}
+use Rattle.sheet.specs.Sheets.{word_at}
+use Rattle.sheet_list.specs.Listing.{spaced}
+use Rattle.sheet_list.proofs.Inks.{space_turn, space_end}
+use Rattle.sheet_list.proofs.write_more.Given as goal
+
+abbrev pub invariant-loop-i : goal.invariant-loop-i
+invariant-loop-i l = (l.a ≤ l.i) × (l.i ≤ l.e) × (l.at ≤ l.k + 11 * (l.i - l.a)) × (length l.out ≡ length l.initial.out)
+    × (advanced sets (course l.out l.at) (spaced (gather (word_at l.bytes) l.i (l.e - l.i))) ≡ advanced sets (course l.initial.out l.k) (spaced (gather (word_at l.bytes) l.a (l.e - l.a))))
+
+abbrev pub decreases-loop-i : goal.decreases-loop-i
+decreases-loop-i l = l.e - l.i
