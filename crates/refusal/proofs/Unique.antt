@@ -1,8 +1,8 @@
 -- Each refusal has a number of its own, and what is said of an answer tells it; the two ways in which a contract permits one outcome.
 use mathlib.Core.Path.{◌≡◌, refl, sym, ap, ◌∙◌}
-use mathlib.Core.Bool.{true, false, true≢false}
+use mathlib.Core.Bool.{false, true≢false}
 use mathlib.Core.List.{List, [], ◌∷◌}
-use Prim.Native.Nat.{ℕ, zero, suc, ◌-◌}
+use Prim.Native.Nat.{ℕ}
 use native.Mathlib.Omega.{arith}
 use lib.ListN.{get_or}
 use lib.Dec.{eqb}
@@ -13,7 +13,7 @@ use Rattle.refusal.specs.declared.Carried.TheVariants.{Face, Nothing}
 use Rattle.refusal.specs.declared.Verdict.{Verdict}
 use Rattle.refusal.specs.declared.Verdict.TheVariants.{Accepted, Refused}
 use Rattle.refusal.specs.Refusals.{number_of, carried_by}
-use Rattle.refusal.specs.Said.{Said, accepted, refused, carried_said, verdict_said}
+use Rattle.refusal.specs.Said.{accepted, refused, carried_said, verdict_said}
 use Rattle.refusal.specs.One.{One}
 
 -- a contract of the form `r ≡ d`
