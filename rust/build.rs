@@ -9,13 +9,12 @@ fn main() {
     // What the proofs read, and not what rt leaves beside it (crates/*/out).
     let crates = std::fs::read_dir(root.join("crates")).unwrap().map(|entry| entry.unwrap().path());
     let read = crates.flat_map(|of| ["src", "specs", "proofs"].map(|part| of.join(part))).filter(|part| part.exists());
-    let tools = ["crates.txt", "tools/build", "tools/crates", "tools/native-lib", "tools/proved"].map(|part| root.join(part));
+    let tools =
+        ["crates.txt", "tools/build", "tools/crates", "tools/native-lib", "tools/proved"].map(|part| root.join(part));
     for part in read.chain(tools) {
         println!("cargo::rerun-if-changed={}", part.display());
     }
-    for name in ["PATH", "RAMIKOHY_ARCHIVE"] {
-        println!("cargo::rerun-if-env-changed={name}");
-    }
+    println!("cargo::rerun-if-env-changed=RAMIKOHY_ARCHIVE");
     if let Some(archive) = std::env::var_os("RAMIKOHY_ARCHIVE") {
         println!("cargo::rerun-if-changed={}", root.join(archive).display());
     }
