@@ -20,8 +20,8 @@ extern "C" {
 #endif
 
 /* Refusals. The lowest that applies is given, but for four cases: in chop_adaptive ROOM and DEEP go to whichever the walk meets first,
- * reading or salvaging a sheet tests SHEET before all others, reading an STL file tests STL before all others, and of ALIKE and NO_LENGTH
- * the one that the lowest face at fault has is given. These two alone carry something, the number of that face. */
+ * reading a sheet tests SHEET before ROOM, reading an STL file tests STL before all others, and of ALIKE and NO_LENGTH the one that the
+ * lowest face at fault has is given. These two alone carry something, the number of that face. */
 #define RAMIKOHY_SHAPE 1      /* a list that is not one of triangles, points, pairs or strokes */
 #define RAMIKOHY_COUNT 2      /* a count above its limit, below */
 #define RAMIKOHY_VERTEX 3     /* a vertex number not below the vertex count */
@@ -30,7 +30,7 @@ extern "C" {
 #define RAMIKOHY_ROOM 6       /* output too short, or a cut that would write over RAMIKOHY_MOST_POINTS */
 #define RAMIKOHY_ALIKE 7      /* polygonal or silhouette: a face that has two corners whose coordinates compare equal (-0 equals 0) */
 #define RAMIKOHY_DEEP 8       /* chop_adaptive would halve a span already 64 halvings deep */
-#define RAMIKOHY_SHEET 9      /* bytes that are not a sheet; to be salvaged, bytes with no header to go by, or without all its starts */
+#define RAMIKOHY_SHEET 9      /* bytes that are not a sheet */
 #define RAMIKOHY_NO_LENGTH 10 /* polygonal or silhouette: a face with three different corners and a normal of computed length 0 */
 #define RAMIKOHY_STL 11       /* bytes that are not a binary STL file */
 
@@ -161,21 +161,6 @@ uint32_t ramikohy_write_sheet(uint32_t mode, uint32_t vertices, const uint32_t *
 uint32_t ramikohy_read_sheet(const uint8_t *bytes, size_t bytes_len, uint32_t *out_numbers, size_t out_numbers_len,
                              uint32_t *out_starts, size_t out_starts_len, size_t *point_count, size_t *start_count,
                              uint32_t *mode, uint32_t *vertices);
-
-/* A good sheet of what is left of a torn one, and what was changed for it. Mode and vertices are kept. Offsets are not followed: starts
- * lie at 24, points behind the stated starts, the smallest of the count stated, of the whole numbers there and of the limit. The first
- * start is taken as 0; another that is not above the last one taken, or not below the points, is ignored, and with no points all are. A
- * point not below the vertices is dropped and its stroke ends there; those behind it, up to the next start taken, begin a new stroke; a
- * piece of one point that such a cut makes is dropped as a leftover, and a stroke of one point that no cut made stays. With no strokes
- * stated every point is a leftover. A good sheet comes back byte for byte.
- * Counted in the last parameters: bytes written; offsets written other than stated, 0 to 2 (another count of strokes alone moves one);
- * starts ignored, the first too if it is not 0; points dropped for their number; leftovers. Points that are stated but that the bytes no
- * longer hold, and bytes past the points, are not counted.
- * RAMIKOHY_SHEET where the bytes do not hold 24 bytes and the stated starts, or mode, vertices or strokes are no sheet's; then
- * RAMIKOHY_COUNT where more strokes than RAMIKOHY_MOST_STROKES would be written; then RAMIKOHY_ROOM; nothing else. Output: what is
- * written, which is never longer than `bytes`; `out` must not overlap with them. Stack: 2,048 bytes. */
-uint32_t ramikohy_salvage_sheet(const uint8_t *bytes, size_t bytes_len, uint8_t *out, size_t out_len, size_t *byte_count,
-                                size_t *offsets, size_t *starts, size_t *numbers, size_t *leftovers);
 
 /* The reader over a list of strokes of vertex numbers: how many are left from stroke i on, 0 where none is; the place of stroke i's
  * first point among `points`; and how many points it has, 0 of an empty one. */

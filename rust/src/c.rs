@@ -199,17 +199,6 @@ unsafe extern "C" {
         mode: *mut u32,
         vertices: *mut u32,
     ) -> u32;
-    pub fn ramikohy_salvage_sheet(
-        bytes: *const u8,
-        bytes_len: usize,
-        out: *mut u8,
-        out_len: usize,
-        byte_count: *mut usize,
-        offsets: *mut usize,
-        starts: *mut usize,
-        numbers: *mut usize,
-        leftovers: *mut usize,
-    ) -> u32;
     pub fn ramikohy_strokes_left(starts: *const u32, starts_len: usize, i: usize) -> usize;
     pub fn ramikohy_stroke_first(
         points: *const u32,

@@ -7,7 +7,6 @@ pub mod contour;
 pub mod draw;
 pub mod read_sheet;
 pub mod read_stl;
-pub mod salvage_sheet;
 pub mod section;
 pub mod simplify;
 pub mod splice;

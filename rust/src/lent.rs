@@ -20,7 +20,6 @@ pub use crate::calls::contour::lent as contour;
 pub use crate::calls::draw::lent as draw;
 pub use crate::calls::read_sheet::lent as read_sheet;
 pub use crate::calls::read_stl::lent as read_stl;
-pub use crate::calls::salvage_sheet::lent as salvage_sheet;
 pub use crate::calls::section::lent as section;
 pub use crate::calls::simplify::lent as simplify;
 pub use crate::calls::splice::lent as splice;

@@ -29,7 +29,6 @@ mod vector;
 pub use calls::chop_adaptive::{View, chop_adaptive};
 pub use calls::draw::{Mode, Sight, draw};
 pub use calls::read_sheet::{Read, Sheet, read_sheet};
-pub use calls::salvage_sheet::{Report, Salvaged, Saved, salvage_sheet};
 pub use calls::write_sheet::write_sheet;
 pub use calls::{chop::chop, contour::contour, section::section, simplify::simplify, splice::splice, weld::weld};
 pub use calls::{read_stl::read_stl, write_stl::write_stl};

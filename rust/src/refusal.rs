@@ -21,7 +21,7 @@ pub enum Refusal {
     Alike { face: u32 },
     /// A span halved too often.
     Deep,
-    /// Bytes that are not a sheet; to be salvaged, bytes with no header to go by, or without all its starts.
+    /// Bytes that are not a sheet.
     Sheet,
     /// A face with three different corners and a normal of computed length 0.
     NoLength { face: u32 },
@@ -93,7 +93,7 @@ impl Refusal {
             Refusal::Room => "output is too short, or a cut would write over 1,048,576 points",
             Refusal::Alike { .. } => "has two corners whose coordinates are equal",
             Refusal::Deep => "a span would be halved more than 64 times",
-            Refusal::Sheet => "the bytes are not a sheet, or, to be salvaged, have no good header with all its starts",
+            Refusal::Sheet => "the bytes are not a sheet",
             Refusal::NoLength { .. } => "has three different corners and a normal of computed length 0",
             Refusal::Stl => "the bytes are not a binary STL file",
         }

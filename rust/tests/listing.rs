@@ -22,8 +22,8 @@ fn run(lister: &Path, words: &[&str], input: &[u8], out: Stdio) -> (Option<i32>,
 #[test]
 fn its_status_tells_failure() {
     let lister = root().join("tools/list");
-    if !root().join("target/bin/list").exists() {
-        return println!("SKIPPED: the program list is not built (rt check list)");
+    if !root().join("crates/list/out/list").exists() {
+        return println!("SKIPPED: the program list is not built (tools/proved list)");
     }
     let strokes: Strokes<u32> = [[1, 0, 2, 1].as_slice()].into_iter().collect();
     let sheet = write_sheet(1, 3, &strokes).unwrap();

@@ -88,23 +88,6 @@ fn sheets() {
     let numbers = line(1, 7);
     refused(|| ramikohy::write_sheet(1, 3, &numbers), Refusal::Vertex);
     refused(|| ramikohy::read_sheet(&[1; 4096]), Refusal::Sheet);
-    refused(|| ramikohy::salvage_sheet(&[1; 4096]), Refusal::Sheet);
-    let parted = parted(196_609);
-    refused(|| ramikohy::salvage_sheet(&parted), Refusal::Count);
-}
-
-/// A sheet of one stroke, which is cut to as many strokes of two points.
-fn parted(strokes: u32) -> Vec<u8> {
-    let header = [1, 3, 1, 3 * strokes, 24, 28, 0];
-    header.into_iter().chain([0, 1, 9].repeat(strokes as usize)).flat_map(u32::to_le_bytes).collect()
-}
-
-/// However many bytes lie past the points, no more is asked for than a sheet may have.
-#[test]
-fn no_more_is_allocated_than_a_sheet_may_have() {
-    let long = [&parted(1)[..], &vec![0; 10_000_000]].concat();
-    let (salvaged, bytes) = asked(|| ramikohy::salvage_sheet(&long));
-    assert!(salvaged.is_ok() && bytes <= 24 + 4 * (196_608 + 1_048_576));
 }
 
 /// A file of as many faces whose corners are all 0.

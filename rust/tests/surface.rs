@@ -100,7 +100,7 @@ fn the_three_languages_name_the_same_functions() {
     let source = files.map(|file| read(&format!("crates/ramikohy/src/{file}.rt"))).concat();
     let rattle = like_rust(&source, "pub extern \"C\" fn ", "\n    ensures");
     let rust = like_rust(&read("rust/src/c.rs"), "pub fn ", ";\n");
-    assert_eq!(rattle.len(), source.matches("#[no_mangle]").count());
+    assert_eq!(rattle.len(), source.matches("#[unsafe(no_mangle)]").count());
     assert_eq!(rattle, rust);
     assert_eq!(rattle, header());
 }

@@ -8,7 +8,7 @@
 
 use crate::calls::strokes::bits;
 use crate::calls::{Left, Lent, adaptive, chop, contour, draw, read_sheet, read_stl, section};
-use crate::calls::{salvage_sheet, simplify, splice, weld, write_sheet, write_stl};
+use crate::calls::{simplify, splice, weld, write_sheet, write_stl};
 use crate::random::Random;
 
 /// The elements of each list that a row's call is lent.
@@ -16,9 +16,6 @@ pub const LENT: usize = 96;
 
 /// The points and starts that reading a sheet is lent.
 const READ: [usize; 2] = [10, 3];
-
-/// The bytes that salvaging a sheet is lent: room for eight words behind the header.
-const SALVAGED: usize = 56;
 
 /// The words, numbers, points and starts that a drawing is lent: scratch for five faces, and room for four.
 const DRAWN: [usize; 4] = [330, 22, 27, 13];
@@ -77,7 +74,6 @@ pub fn sheet_rows() -> Vec<String> {
     let mut all = Vec::new();
     all.extend(made(&mut random, write_sheet_row));
     all.extend(made(&mut random, read_sheet_row));
-    all.extend(made(&mut random, salvage_sheet_row));
     all
 }
 
@@ -242,10 +238,10 @@ fn write_sheet_row(random: &mut Random) -> Option<Vec<u64>> {
     Some(row).filter(|_| input.numbers.len() < LENT && input.starts.len() < LENT)
 }
 
-/// The counts of a call that wrote bytes, of which the first says how many, and the bytes; nothing where it was refused.
+/// The count of bytes that a call wrote, and the bytes; nothing where it was refused.
 fn written(left: &Left<u8>) -> Vec<u64> {
-    let count = left.counts.first().copied().unwrap_or(0);
-    left.counts.iter().map(|&n| n as u64).chain(byte_words(&left.lent.points[..count])).collect()
+    let bytes = |&count: &usize| [count as u64].into_iter().chain(byte_words(&left.lent.points[..count]));
+    left.counts.iter().flat_map(bytes).collect()
 }
 
 fn read_sheet_row(random: &mut Random) -> Option<Vec<u64>> {
@@ -253,15 +249,6 @@ fn read_sheet_row(random: &mut Random) -> Option<Vec<u64>> {
     let lent = Lent { points: vec![7; points], starts: vec![7; starts], ..Lent::default() };
     let input = read_sheet::Input { lent, ..read_sheet::make(random) };
     row(2, &[input.bytes.len()], byte_words(&input.bytes).collect(), &read_sheet::judged(&input), 1)
-}
-
-fn salvage_sheet_row(random: &mut Random) -> Option<Vec<u64>> {
-    let input = salvage_sheet::Input { lent: write_sheet::lent(vec![7; SALVAGED]), ..salvage_sheet::make(random) };
-    let left = salvage_sheet::judged(&input);
-    let mut row = vec![3, left.status as u64, input.bytes.len() as u64];
-    row.extend(byte_words(&input.bytes));
-    row.extend(written(&left));
-    Some(row).filter(|_| input.bytes.len() < LENT)
 }
 
 /// As much is lent as the input came with; how many bytes the file has stands after that, since it may have more than `LENT`. Of

@@ -11,7 +11,6 @@ pub mod draw;
 pub mod mesh;
 pub mod read_sheet;
 pub mod read_stl;
-pub mod salvage_sheet;
 pub mod section;
 pub mod simplify;
 pub mod splice;
@@ -123,7 +122,6 @@ pub const LINKED: &[Linked] = &[
     Linked { name: "draw", run: draw::run },
     Linked { name: "write_sheet", run: write_sheet::run },
     Linked { name: "read_sheet", run: read_sheet::run },
-    Linked { name: "salvage_sheet", run: salvage_sheet::run },
     Linked { name: "write_stl", run: write_stl::run },
     Linked { name: "read_stl", run: read_stl::run },
 ];

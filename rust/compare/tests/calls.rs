@@ -2,9 +2,8 @@
 #![cfg(original)]
 
 use compare::calls::{Left, Lent, adaptive, chop, contour, draw, section, simplify, splice, weld};
-use compare::calls::{read_sheet, read_stl, salvage_sheet, write_sheet, write_stl};
+use compare::calls::{read_sheet, read_stl, write_sheet, write_stl};
 use compare::random::Random;
-use compare::reading;
 use std::collections::BTreeMap;
 
 /// Room for plenty, with something in it.
@@ -273,7 +272,6 @@ fn random_inputs_meet_every_refusal_that_they_can() {
     assert_eq!(met(contour::make, contour::judged), [0, 1, 3, 4, 5, 6]);
     assert_eq!(met(write_sheet::make, write_sheet::judged), [0, 1, 2, 3, 4, 6]);
     assert_eq!(met(read_sheet::make, read_sheet::judged), [0, 6, 9]);
-    assert_eq!(met(salvage_sheet::make, salvage_sheet::judged), [0, 6, 9]);
     assert_eq!(met(write_stl::make, write_stl::judged), [0, 1, 3, 4, 6]);
     assert_eq!(met(read_stl::make, read_stl::judged), [0, 4, 5, 6, 11]);
 }
@@ -400,85 +398,6 @@ fn the_sheet_of_the_rules() {
     let left = read_sheet::judged(&read_sheet::Input { bytes, lent: plenty(5) });
     assert_eq!(left.counts, [4, 1, 1, 3]);
     assert_eq!((&left.lent.points[..4], left.lent.starts[0]), (&[1, 0, 2, 1][..], 0));
-}
-
-/// What salvage leaves of bytes with room for so many.
-fn salvaged(bytes: &[u8], room: usize) -> Left<u8> {
-    salvage_sheet::judged(&salvage_sheet::Input { bytes: bytes.to_vec(), lent: write_sheet::lent(vec![9; room]) })
-}
-
-#[test]
-fn salvages_of_the_rules() {
-    for case in salvage_sheet::WORKED {
-        let given = case.given();
-        let Ok((words, report)) = case.leaves else {
-            assert_eq!([0, 23, 44, 1000].map(|room| Err(salvaged(&given, room).status)), [case.leaves; 4]);
-            continue;
-        };
-        let bytes: Vec<u8> = words.iter().flat_map(|word| word.to_le_bytes()).collect();
-        let left = salvaged(&given, bytes.len() + 1);
-        assert_eq!((left.status, left.counts), (0, [&[bytes.len()], &report[..]].concat()));
-        assert_eq!(left.lent.points, [&bytes[..], &[9]].concat());
-        assert_eq!(salvaged(&given, bytes.len()).lent.points, bytes);
-        let short = salvaged(&given, bytes.len() - 1);
-        assert_eq!((short.status, short.lent.points), (6, vec![9; bytes.len() - 1]));
-    }
-}
-
-/// 2 comes before 6 and after 9, and is met at the limits alone.
-#[test]
-fn salvages_at_the_limits_of_the_rules() {
-    for large in salvage_sheet::LARGE {
-        let bytes = (large.bytes)();
-        let without = if large.status == 0 { 6 } else { large.status };
-        assert_eq!([bytes.len(), 0].map(|room| salvaged(&bytes, room).status), [large.status, without]);
-    }
-    let left = salvaged(&salvage_sheet::thirds(196_608), 24 + 12 * 196_608);
-    assert_eq!(left.counts, [24 + 12 * 196_608, 1, 0, 196_608, 0]);
-}
-
-/// What a random sheet to be salvaged may have, all of which must come often.
-fn notable_tear(input: &salvage_sheet::Input) -> Vec<&'static str> {
-    let left = salvage_sheet::judged(input);
-    let (&[bytes, offsets, ignored, dropped, alone], Some(torn)) = (&left.counts[..], reading::torn(&input.bytes))
-    else {
-        return vec![];
-    };
-    let written = &left.lent.points[..bytes];
-    let strokes = reading::sheet(written).expect("a sheet").starts.len();
-    let (stated, points) = (torn.starts.len(), torn.numbers.len());
-    let alike = [offsets, ignored, dropped, alone] == [0; 4];
-    let first_wrong = torn.starts.first().is_some_and(|&start| start != 0);
-    let all = [
-        (written == input.bytes, "a good sheet"),
-        (alike && written != input.bytes, "an end that is torn off, or bytes past it"),
-        (offsets == 1, "an offset"),
-        (offsets == 2, "two offsets"),
-        (points > 0 && first_wrong, "a first start that is not 0"),
-        (points > 0 && ignored > usize::from(first_wrong), "another start that is ignored"),
-        (points == 0 && stated > 0, "strokes without points"),
-        (points > 0 && stated == 0, "points without strokes"),
-        (dropped > 0 && alone == 0, "a cut that leaves no point alone"),
-        (dropped > 0 && alone > 0, "one that does"),
-        (strokes > stated, "more strokes than stated"),
-        (points > 0 && strokes + ignored < stated, "a stroke that loses all its points"),
-        (points < torn.header[3] as usize, "points that the bytes no longer hold"),
-        (!input.bytes.len().is_multiple_of(4), "part of a number"),
-        (24 + 4 * (stated + points) + 3 < input.bytes.len(), "numbers past the points"),
-    ];
-    all.into_iter().filter(|(is_so, _)| *is_so).map(|(_, what)| what).collect()
-}
-
-#[test]
-fn random_sheets_to_salvage_meet_every_case() {
-    let mut random = Random::new(10);
-    let mut seen = BTreeMap::<&str, u32>::new();
-    for _ in 0..20_000 {
-        let input = salvage_sheet::make(&mut random);
-        notable_tear(&input).into_iter().for_each(|what| *seen.entry(what).or_default() += 1);
-    }
-    println!("{seen:?}");
-    assert!(seen.len() == 15 && seen.values().all(|&n| n >= 100), "{seen:?}");
 }
 
 /// A file of one face with these x, y and z zero, a header that begins as a text's, NaN normals and two bytes that say

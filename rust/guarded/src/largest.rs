@@ -1,7 +1,7 @@
 //! Calls at the limits and one past them, and where recursion is deepest.
 
 use crate::call::Call;
-use crate::source::{MOST_POINTS, MOST_STROKES, Strokes};
+use crate::source::{MOST_STROKES, Strokes};
 use crate::strokes::{View, chop_adaptive_of, chop_of, reader_of, simplify_of, splice_of};
 use crate::{files, meshes, sheets};
 use ramikohy::Sight;
@@ -14,6 +14,7 @@ pub struct Large {
 }
 
 /// The limits of the rules.
+const MOST_POINTS: usize = 1_048_576;
 const MOST_TO_SIMPLIFY: usize = 4_096;
 const MOST_FACES: usize = 65_536;
 const MOST_VERTICES: usize = 196_608;
@@ -25,7 +26,7 @@ fn large(what: &'static str, call: Call, status: u32) -> Large {
 /// Every one of them.
 pub fn all() -> Vec<Large> {
     let strokes = [cuts(), adaptive(), simplified(), numbered()];
-    let meshes = [welds(), sections(), contours(), drawings(), sheets(), salvaged(), read(), written()];
+    let meshes = [welds(), sections(), contours(), drawings(), sheets(), read(), written()];
     strokes.into_iter().chain(meshes).flatten().collect()
 }
 
@@ -216,32 +217,6 @@ fn sheets() -> Vec<Large> {
         large("one vertex more", sheets::write_sheet_of(&most, 3, vertices + 1, bytes.len()), 2),
         large("1,048,576 points, 196,608 strokes", read, 0),
         large("one vertex more", sheets::read_sheet_of(&bytes, [MOST_POINTS, MOST_STROKES]), 9),
-    ]
-}
-
-/// A sheet of these starts and of this point over and over, of three vertices.
-fn sheet_of_points(starts: Vec<u32>, points: &[u32], times: usize) -> Vec<u8> {
-    sheets::bytes_of(&Strokes { points: points.repeat(times), starts }, 1, 3)
-}
-
-fn salvaged() -> Vec<Large> {
-    let of = |bytes: &[u8]| sheets::salvage_sheet_of(bytes, bytes.len());
-    let starts: Vec<u32> = (0..MOST_STROKES as u32).map(|i| 5 * i).collect();
-    let most = sheet_of_points(starts, &[2], MOST_POINTS);
-    let numbers = 24 + 4 * MOST_STROKES;
-    let mut without_starts = most.clone();
-    without_starts[28..numbers].fill(0xFF);
-    let parted = |times: usize| sheet_of_points(vec![0], &[0, 1, 9], times);
-    vec![
-        large("1,048,576 points, 196,608 strokes", of(&most), 0),
-        large("the same without a byte", of(&most[..most.len() - 1]), 0),
-        large("the same without points", of(&most[..numbers]), 0),
-        large("one byte less", of(&most[..numbers - 1]), 9),
-        large("196,608 strokes, all starts but the first past the points", of(&without_starts), 0),
-        large("one point more", of(&sheet_of_points(vec![0], &[2], MOST_POINTS + 1)), 0),
-        large("1,048,576 points, none of a vertex", of(&sheet_of_points(vec![0], &[9], MOST_POINTS)), 0),
-        large("cut to 196,608 strokes", of(&parted(MOST_STROKES)), 0),
-        large("cut to one more", of(&parted(MOST_STROKES + 1)), 2),
     ]
 }
 

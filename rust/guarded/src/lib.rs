@@ -24,7 +24,7 @@ use call::Call;
 use source::Source;
 
 /// A maker for each call on lists. The reader's three functions are tried as one.
-pub const CALLS: [fn(&mut Source) -> Call; 14] = [
+pub const CALLS: [fn(&mut Source) -> Call; 13] = [
     strokes::chop,
     strokes::splice,
     strokes::chop_adaptive,
@@ -38,7 +38,6 @@ pub const CALLS: [fn(&mut Source) -> Call; 14] = [
     files::read_stl,
     files::write_stl,
     meshes::contour,
-    sheets::salvage_sheet,
 ];
 
 /// The call that these bytes stand for: the first says which function, mostly one on lists.

@@ -1,10 +1,9 @@
-//! The calls on sheets. What is written is read back, what is read is written again to the same bytes, and what is salvaged is a sheet
-//! that is salvaged to itself.
+//! The calls on sheets. What is written is read back, and what is read is written again to the same bytes.
 
 use crate::buffer::{Buffer, Slice, words};
 use crate::call::{Call, Left, handed, status};
-use crate::source::{MOST_POINTS, Source, Strokes};
-use ramikohy::{Report, Salvaged, lent};
+use crate::source::{Source, Strokes};
+use ramikohy::lent;
 
 /// Strokes as a sheet.
 pub fn write_sheet(s: &mut Source) -> Call {
@@ -84,43 +83,4 @@ pub fn read_sheet_of(bytes: &[u8], room: [usize; 2]) -> Call {
         assert_eq!(wrote, Ok(again.len()), "what is read can be written");
         assert!(again == left.bytes[0], "what is read is written again to other bytes");
     })
-}
-
-/// What is left of a sheet: of a good one with a few damages, at times with numbers of no vertex.
-pub fn salvage_sheet(s: &mut Source) -> Call {
-    let vertices = s.one_of(&[9, 1, 5, 200, 196_608]);
-    let mode = 1 + s.below(3) as u32;
-    let strokes = s.numbered(vertices as usize);
-    let mut bytes = bytes_of(&strokes, mode, vertices);
-    for _ in 0..s.below(6) {
-        damage(s, &mut bytes);
-    }
-    salvage_sheet_of(&bytes, 2000)
-}
-
-/// The same of given bytes and room.
-pub fn salvage_sheet_of(bytes: &[u8], room: usize) -> Call {
-    let mut buffers = vec![Buffer::input(bytes), Buffer::plenty::<u8>(0, 1, room)];
-    buffers.extend([(); 5].map(|()| Buffer::place::<usize>()));
-    let work = |b: &[Slice]| status(handed!(ramikohy_salvage_sheet, b, [0][1](2)(3)(4)(5)(6)));
-    Call::new("ramikohy_salvage_sheet", &[2, 6, 9], buffers, work).sound(is_saved)
-}
-
-/// What is salvaged is no longer than the bytes and a sheet of their mode and vertices; it is salvaged to itself, with nothing changed;
-/// and the counts are of its offsets, of no more starts than are stated, and of every point that was taken.
-fn is_saved(call: &Call, left: &Left) {
-    let [count, offsets, starts, numbers, leftovers] = [0, 1, 2, 3, 4].map(|k| left.count(call, k));
-    let (bytes, saved) = (&left.bytes[0], &left.bytes[1][..count]);
-    assert!(count <= bytes.len(), "more is written than was given");
-    let header = words(&bytes[..24]);
-    let sheet = ramikohy::read_sheet(saved).expect("what is salvaged is a sheet");
-    assert_eq!([sheet.mode, sheet.vertices], header[..2], "the header");
-    let again = Salvaged { sheet: saved.to_vec(), report: Report::default() };
-    assert!(ramikohy::salvage_sheet(saved) == Ok(again), "what is salvaged is salvaged to something else");
-    let stated = header[2] as usize;
-    let whole = (bytes.len() / 4 - 6 - stated).min(header[3] as usize).min(MOST_POINTS);
-    assert_eq!(sheet.strokes.points().len() + numbers + leftovers, whole, "every point that was taken");
-    let written = words(&saved[..24]);
-    assert_eq!(offsets, [4, 5].iter().filter(|&&k| written[k] != header[k]).count(), "the offsets");
-    assert!(starts <= stated, "more starts ignored than there are");
 }

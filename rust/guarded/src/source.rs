@@ -9,9 +9,8 @@ pub struct Strokes<P> {
     pub starts: Vec<u32>,
 }
 
-/// The most strokes that a call takes, and the most points.
+/// The most strokes that a call takes.
 pub const MOST_STROKES: usize = 196_608;
-pub const MOST_POINTS: usize = 1_048_576;
 
 /// Numbers at the ends of the ranges, and what is no number.
 const ODD: [f64; 16] = [

@@ -6,7 +6,6 @@ use guarded::files::{bytes_of, read_stl_of, write_stl_of};
 use guarded::meshes::{contour_of, draw_of};
 use guarded::pages::Side;
 use guarded::rows::{self, Row};
-use guarded::sheets::salvage_sheet_of;
 use guarded::source::{Source, Strokes, random_bytes};
 use guarded::strokes::{chop_of, splice_of};
 use guarded::{CALLS, arithmetic, largest};
@@ -52,7 +51,6 @@ fn every_function_keeps_to_what_it_is_lent() {
     assert_eq!(statuses("ramikohy_draw"), [0, 1, 3, 4, 7, 10]);
     assert_eq!(statuses("ramikohy_write_sheet"), [0, 1, 2, 3, 4]);
     assert_eq!(statuses("ramikohy_read_sheet"), [0, 9]);
-    assert_eq!(statuses("ramikohy_salvage_sheet"), [0, 9]);
     assert_eq!(statuses("ramikohy_read_stl"), [0, 4, 11]);
     assert_eq!(statuses("ramikohy_write_stl"), [0, 1, 3, 4]);
 }
@@ -223,21 +221,6 @@ fn a_file_that_is_cut_off_is_none() {
     }
 }
 
-/// A stroke with a number of no vertex: two strokes of two and of three points are left.
-fn one_salvaged() -> Call {
-    let words = [1u32, 3, 1, 6, 24, 28, 0, 0, 1, 7, 1, 2, 0];
-    salvage_sheet_of(&words.map(u32::to_le_bytes).concat(), 60)
-}
-
-/// Cut off anywhere behind its starts a sheet is salvaged, and nothing behind the cut is read; before that it is refused.
-#[test]
-fn a_sheet_that_is_cut_off_is_salvaged() {
-    let sheet = [2u32, 9, 3, 7, 24, 36, 0, 1, 4, 3, 0, 1, 2, 3, 1, 0].map(u32::to_le_bytes).concat();
-    for len in 0..=sheet.len() {
-        assert_eq!(salvage_sheet_of(&sheet[..len], len).try_all(0), if len < 36 { 9 } else { 0 }, "{len} bytes");
-    }
-}
-
 /// A call that turns a bit of a buffer when it is done.
 fn turned(of: fn() -> Call, buffer: usize, bit: usize) -> Call {
     let work = move |b: &[Slice]| {
@@ -264,23 +247,6 @@ fn a_wrong_file_is_seen() {
     assert!(is_seen(turned(one_written, 2, 8 * 100 - 1)), "a zero without its sign");
     assert!(is_seen(turned(one_written, 2, 8 * 108)), "another corner");
     assert!(is_seen(turned(one_written, 2, 8 * 133)), "bytes after the face that are not zero");
-}
-
-/// A salvaged sheet or a count that is wrong in one bit is seen.
-#[test]
-fn a_wrong_salvage_is_seen() {
-    assert!(!is_seen(one_salvaged()));
-    assert!(is_seen(turned(one_salvaged, 0, 32)), "an input changed");
-    assert!(is_seen(turned(one_salvaged, 1, 1)), "another mode");
-    assert!(is_seen(turned(one_salvaged, 1, 32 * 5)), "another offset");
-    assert!(is_seen(turned(one_salvaged, 1, 32 * 7 + 2)), "a start past the points");
-    assert!(is_seen(turned(one_salvaged, 1, 32 * 8 + 3)), "a number of no vertex");
-    assert!(is_seen(turned(one_salvaged, 1, 32 * 13)), "room past what is written changed");
-    assert!(is_seen(turned(one_salvaged, 2, 3)), "a count too high");
-    assert!(is_seen(turned(one_salvaged, 3, 0)), "no offset told");
-    assert!(is_seen(turned(one_salvaged, 4, 1)), "more starts than there are");
-    assert!(is_seen(turned(one_salvaged, 5, 0)), "no number told");
-    assert!(is_seen(turned(one_salvaged, 6, 0)), "a leftover told");
 }
 
 /// Two faces that share an edge, cut to one stroke of three points.

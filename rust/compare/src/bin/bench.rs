@@ -54,30 +54,14 @@ fn main() {
         println!("{}", calls::cut(cut, RUNS));
     }
     contours(&word);
-    sheets(&word);
-    stl(&word);
-}
-
-/// What is told of sheets.
-#[cfg(original)]
-fn sheets(word: &str) {
     println!("\n## Sheets\n");
-    println!(
-        "The original has none. The drawing of the torus in triangles is written, read and salvaged; growth as above.\n"
-    );
+    println!("The original has none. The drawing of the torus in triangles is written and read; growth as above.\n");
     println!("| call | bytes | port, ms | MB a second | growth |");
     println!("|---|---|---|---|---|");
-    for call in calls::SHEETS.iter().filter(|call| call.name.starts_with(word)) {
+    for call in calls::SHEETS.iter().filter(|call| call.name.starts_with(&word)) {
         println!("{}", compare::bench::rate(call, RUNS));
     }
-    println!(
-        "\nBy turns, a torn sheet is salvaged, and a good one of as many strokes and points is read, which is as many bytes.\n"
-    );
-    println!("| sheet | bytes | salvage_sheet, ms | read_sheet, ms | salvage / read |");
-    println!("|---|---|---|---|---|");
-    for torn in calls::TORN.iter().filter(|_| "salvage_sheet".starts_with(word)) {
-        println!("{}", calls::salvaged(torn, RUNS));
-    }
+    stl(&word);
 }
 
 /// What is told of contours.
@@ -129,12 +113,10 @@ const RUNS: usize = 25;
 mod calls {
     use compare::bench::{Call, File, Rated, best, best_by_turns};
     use compare::calls::contour;
-    use compare::calls::write_sheet::bytes_of as sheet_bytes;
     use compare::calls::write_stl::bytes_of;
     use compare::crowded;
     use compare::cuts::Cut;
     use compare::random::Random;
-    use compare::reading::Sheet;
     use compare::torus::{self, Mesh};
     use original::eps_1e9::{
         matrix::Matrix, mesh, mesh::MeshTexture, path::Paths, plane::Plane, shape::RenderArgs, shape::Shape,
@@ -413,77 +395,8 @@ mod calls {
     ];
 
     /// What the original lacks.
-    pub const SHEETS: &[Rated] = &[
-        Rated { name: "write_sheet", port: write_sheet_port },
-        Rated { name: "read_sheet", port: read_sheet_port },
-        Rated { name: "salvage_sheet", port: salvage_sheet_port },
-    ];
-
-    /// A sheet to be salvaged: so many strokes of so many points each, and the damage done to its starts and numbers.
-    pub struct Torn {
-        name: &'static str,
-        strokes: usize,
-        points: usize,
-        tear: fn(&mut [u32], &mut [u32]),
-    }
-
-    /// Good sheets at the limits, and torn ones. The vertices are as many as there may be, and each number below that is one.
-    pub const TORN: &[Torn] = &[
-        Torn { name: "good, one stroke", strokes: 1, points: 1_048_576, tear: |_, _| {} },
-        Torn { name: "good, 196,608 strokes of five points", strokes: 196_608, points: 5, tear: |_, _| {} },
-        Torn { name: "good, 196,608 strokes of one point", strokes: 196_608, points: 1, tear: |_, _| {} },
-        Torn {
-            name: "one stroke, every third number wild",
-            strokes: 1,
-            points: 3 * 196_608,
-            tear: |_, numbers| numbers.iter_mut().skip(2).step_by(3).for_each(|number| *number = u32::MAX),
-        },
-        Torn {
-            name: "one stroke, every other number wild",
-            strokes: 1,
-            points: 1_048_576,
-            tear: |_, numbers| numbers.iter_mut().step_by(2).for_each(|number| *number = u32::MAX),
-        },
-        Torn {
-            name: "one stroke, one number in three wild, anywhere",
-            strokes: 1,
-            points: 1_048_576,
-            tear: |_, numbers| {
-                let mut random = Random::new(12);
-                numbers.iter_mut().filter(|_| random.once_in(3)).for_each(|number| *number = u32::MAX);
-            },
-        },
-        Torn {
-            name: "one stroke, every number wild",
-            strokes: 1,
-            points: 1_048_576,
-            tear: |_, numbers| numbers.fill(u32::MAX),
-        },
-        Torn {
-            name: "196,608 strokes of two points, one number in two wild, anywhere",
-            strokes: 196_608,
-            points: 2,
-            tear: |_, numbers| {
-                let mut random = Random::new(14);
-                numbers.iter_mut().filter(|_| random.once_in(2)).for_each(|number| *number = u32::MAX);
-            },
-        },
-        Torn {
-            name: "196,608 strokes of five points, all starts past the points",
-            strokes: 196_608,
-            points: 5,
-            tear: |starts, _| starts.fill(u32::MAX),
-        },
-        Torn {
-            name: "196,608 strokes of five points, starts anywhere",
-            strokes: 196_608,
-            points: 5,
-            tear: |starts, _| {
-                let mut random = Random::new(13);
-                starts.iter_mut().for_each(|start| *start = random.below(1 << 20) as u32);
-            },
-        },
-    ];
+    pub const SHEETS: &[Rated] =
+        &[Rated { name: "write_sheet", port: write_sheet_port }, Rated { name: "read_sheet", port: read_sheet_port }];
 
     pub const FILED: &[Rated] = &[
         Rated { name: "write_stl", port: |mesh, runs| write_stl_of(&singles(mesh), runs) },
@@ -1032,37 +945,6 @@ mod calls {
             black_box((&mut points, &mut starts));
         });
         (sheet.len(), seconds)
-    }
-
-    fn salvage_sheet_port(mesh: &Mesh, runs: usize) -> (usize, f64) {
-        let (_, sheet) = drawing(mesh);
-        let mut out = sheet.clone();
-        let seconds = best(runs, || {
-            lent::salvage_sheet(&sheet, &mut out).unwrap();
-            black_box(&mut out);
-        });
-        (sheet.len(), seconds)
-    }
-
-    /// A line of the table of torn sheets.
-    pub fn salvaged(torn: &Torn, runs: usize) -> String {
-        let count = torn.strokes * torn.points;
-        let sheet = |starts, numbers| sheet_bytes(&Sheet { mode: 3, vertices: 196_608, starts, numbers });
-        let mut starts: Vec<u32> = (0..count as u32).step_by(torn.points).collect();
-        let mut numbers: Vec<u32> = (0..count as u32).map(|i| i % 196_608).collect();
-        let good = sheet(starts.clone(), numbers.clone());
-        (torn.tear)(&mut starts, &mut numbers);
-        let bytes = sheet(starts.clone(), numbers.clone());
-        let mut out = vec![0; bytes.len()];
-        let [salvage, read] = best_by_turns(runs, |which| {
-            let wrote = match which {
-                0 => lent::salvage_sheet(&bytes, &mut out).map(|saved| saved.bytes),
-                _ => lent::read_sheet(&good, &mut numbers, &mut starts).map(|read| read.points),
-            };
-            black_box((wrote.unwrap(), &mut out, &mut numbers, &mut starts));
-        });
-        let over = salvage / read;
-        format!("| {} | {} | {:.2} | {:.2} | {over:.2} |", torn.name, bytes.len(), salvage * 1e3, read * 1e3)
     }
 
     /// The mesh with the nearest f32 to each coordinate.

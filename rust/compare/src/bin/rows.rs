@@ -1,8 +1,7 @@
 //! Makes the stored rows, the same each time: `rows > crates/replay/stdin` those of the arithmetic, of chop and of
 //! splice, `rows strokes > crates/replay_strokes/stdin` those of simplify and chop_adaptive, `rows meshes >
 //! crates/replay_meshes/stdin` those of draw, weld, section and contour, `rows sheets > crates/replay_sheets/stdin`
-//! those of write_sheet, read_sheet and salvage_sheet, `rows stl > crates/replay_stl/stdin` those of read_stl and
-//! write_stl.
+//! those of write_sheet and read_sheet, `rows stl > crates/replay_stl/stdin` those of read_stl and write_stl.
 
 #[cfg(not(original))]
 fn main() {

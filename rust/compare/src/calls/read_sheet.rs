@@ -24,7 +24,7 @@ pub fn make(random: &mut Random) -> Input {
 }
 
 /// A random sheet: few strokes of few points.
-pub fn good(random: &mut Random) -> Sheet {
+fn good(random: &mut Random) -> Sheet {
     let (strokes, most) = if random.once_in(50) { (random.below(40), 20) } else { (random.below(5), 4) };
     let digits = random.below(18);
     let vertices = 1 + random.below(1 << digits) as u32;
@@ -37,12 +37,12 @@ pub fn good(random: &mut Random) -> Sheet {
 }
 
 /// The k-th word of bytes; 0 where they end before.
-pub fn word(bytes: &[u8], k: usize) -> u32 {
+fn word(bytes: &[u8], k: usize) -> u32 {
     bytes.get(4 * k..4 * k + 4).map_or(0, |b| u32::from_le_bytes([b[0], b[1], b[2], b[3]]))
 }
 
 /// The same bytes with another k-th word, where they have one.
-pub fn set(bytes: &mut [u8], k: usize, to: u32) {
+fn set(bytes: &mut [u8], k: usize, to: u32) {
     if let Some(place) = bytes.get_mut(4 * k..4 * k + 4) {
         place.copy_from_slice(&to.to_le_bytes());
     }
@@ -60,7 +60,7 @@ fn values(bytes: &[u8], k: usize) -> Vec<u32> {
 
 /// One damage: a word of the header, a start or a number at another value, bytes cut off or added, any byte, a word swapped with its
 /// neighbour, or a stroke more and a point less by the header, so that the length is right.
-pub fn damage(random: &mut Random, bytes: &mut Vec<u8>) {
+fn damage(random: &mut Random, bytes: &mut Vec<u8>) {
     let words = bytes.len() / 4;
     let strokes = word(bytes, 2) as usize;
     let some_word = match random.below(8) {
@@ -102,7 +102,7 @@ fn with_room(bytes: Vec<u8>, points: usize, starts: usize) -> Input {
 }
 
 /// A few small sheets.
-pub fn few() -> Vec<Sheet> {
+fn few() -> Vec<Sheet> {
     let sheet = |mode, vertices, starts: &[u32], numbers: &[u32]| Sheet {
         mode,
         vertices,
@@ -117,30 +117,25 @@ pub fn few() -> Vec<Sheet> {
     ]
 }
 
-/// A sheet cut off at every byte, with bytes added, with every word at every value of note, and with each byte changed.
-pub fn damaged(sheet: &Sheet) -> Vec<Vec<u8>> {
-    let bytes = bytes_of(sheet);
-    let cut = (0..=bytes.len()).map(|n| bytes[..n].to_vec());
-    let more = (1..9).map(|n| [&bytes[..], &vec![0; n][..]].concat());
-    let words = (0..bytes.len() / 4).flat_map(|k| values(&bytes, k).into_iter().map(move |to| (k, to)));
-    let changed = words.map(|(k, to)| {
-        let mut other = bytes.clone();
-        set(&mut other, k, to);
-        other
-    });
-    let flipped = (0..8 * bytes.len()).map(|bit| {
-        let mut other = bytes.clone();
-        other[bit / 8] ^= 1 << (bit % 8);
-        other
-    });
-    cut.chain(more).chain(changed).chain(flipped).collect()
-}
-
-/// Each of the small sheets with each of these damages.
+/// Each of these sheets cut off at every byte, with bytes added, with every word at every value of note, and with each byte changed.
 fn all_small() -> impl Iterator<Item = Input> {
     few().into_iter().flat_map(|sheet| {
-        let (points, starts) = (sheet.numbers.len() + 1, sheet.starts.len() + 1);
-        damaged(&sheet).into_iter().map(move |bytes| with_room(bytes, points, starts))
+        let bytes = bytes_of(&sheet);
+        let cut = (0..=bytes.len()).map(|n| bytes[..n].to_vec());
+        let more = (1..9).map(|n| [&bytes[..], &vec![0; n][..]].concat());
+        let words = (0..bytes.len() / 4).flat_map(|k| values(&bytes, k).into_iter().map(move |to| (k, to)));
+        let changed = words.map(|(k, to)| {
+            let mut other = bytes.clone();
+            set(&mut other, k, to);
+            other
+        });
+        let flipped = (0..8 * bytes.len()).map(|bit| {
+            let mut other = bytes.clone();
+            other[bit / 8] ^= 1 << (bit % 8);
+            other
+        });
+        let all: Vec<Vec<u8>> = cut.chain(more).chain(changed).chain(flipped).collect();
+        all.into_iter().map(move |bytes| with_room(bytes, sheet.numbers.len() + 1, sheet.starts.len() + 1))
     })
 }
 
