@@ -1,5 +1,5 @@
 -- What is kept point by point is what is kept piece by piece.
-use mathlib.Core.Path.{◌≡◌, refl, sym, ap, ◌∙◌}
+use mathlib.Core.Path.{◌≡◌, refl, sym, ap, ◌∙◌, subst}
 use mathlib.Core.Bool.{Bool, true, false, ◌&&◌, cond, true≢false}
 use mathlib.Core.List.{List, [], ◌∷◌, ◌++◌}
 use Prim.Native.Nat.{ℕ, zero, suc, ◌+◌, ◌-◌}
@@ -128,7 +128,10 @@ module _ (n : ℕ) (at : ℕ → ℕ) (a e : ℕ) where
           one : (b : Bool) → cond (b && true) (at a ∷ []) [] ≡ joined (long_ones 1 (cond b ((at a ∷ []) ∷ []) ([] ∷ [] ∷ [])))
           one true = refl
           one false = refl
-      go (suc (suc k)) = rw (le-ltb (suc (suc k)) 2 (omega arith)) (numbers n (gather at a (suc (suc k)))).fresh
+      go (suc (suc k)) =
+          let long : ltb (suc (suc k)) 2 ≡ false = le-ltb (suc (suc k)) 2 (omega arith) in
+          subst (λ (b : Bool). scanned n b false (gather at a (suc (suc k))) ≡ joined (long_ones (cond b 1 2) (pieces_of n (gather at a (suc (suc k))))))
+          (sym long) (numbers n (gather at a (suc (suc k)))).fresh
 
   pub begun-is : (m : ℕ) → begun n (ltb (e - a) 2) false m (gather at a (e - a)) ≡ starts_from m (kept_from n at a e)
   unfolding kept_from kept_pieces gather begun pieces_of long_ones longer starts_from next_good
@@ -141,4 +144,7 @@ module _ (n : ℕ) (at : ℕ → ℕ) (a e : ℕ) where
           one : (b : Bool) → cond (b && true) (m ∷ []) [] ≡ starts_from m (long_ones 1 (cond b ((at a ∷ []) ∷ []) ([] ∷ [] ∷ [])))
           one true = refl
           one false = refl
-      go (suc (suc k)) = rw (le-ltb (suc (suc k)) 2 (omega arith)) ((starts n (gather at a (suc (suc k)))).fresh m)
+      go (suc (suc k)) =
+          let long : ltb (suc (suc k)) 2 ≡ false = le-ltb (suc (suc k)) 2 (omega arith) in
+          subst (λ (b : Bool). begun n b false m (gather at a (suc (suc k))) ≡ starts_from m (long_ones (cond b 1 2) (pieces_of n (gather at a (suc (suc k))))))
+          (sym long) ((starts n (gather at a (suc (suc k)))).fresh m)

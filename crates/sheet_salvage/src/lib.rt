@@ -1,4 +1,6 @@
 // Salvage: a good sheet of what a torn one still holds, and how much was changed for it.
+#![tactic(auto)]
+
 ghost use Rattle.std.specs.Prelude.{◌≡◌, true, ◌&&◌, not, cond, ◌+◌, ◌-◌, ◌*◌, ◌≤◌, length, ltb, eqb};
 ghost use Rattle.std.proofs.lemmas.List.Edits.{sets};
 ghost use Rattle.refusal.specs.Limits.{most_strokes, most_points};

@@ -1,0 +1,29 @@
+-- The invariants of `count_strokes`.
+use mathlib.Core.Path.{◌≡◌, refl, sym, ap, ◌∙◌}
+use mathlib.Core.Bool.{cond}
+use Prim.Native.Nat.{ℕ, ◌+◌, ◌-◌, ◌≤◌, ◌<◌}
+use native.Mathlib.Omega.{arith}
+use lib.Dec.{eqb}
+use Rattle.path.specs.Strokes.{gather}
+use Rattle.sheet.specs.Sheets.{word_at}
+use Rattle.sheet_salvage.specs.Salvage.{behind}
+use Rattle.sheet_salvage.specs.InnerPieces.{saved_by, ignored_by, after}
+use Rattle.sheet_salvage.specs.InnerScan.{num, good_of}
+use Rattle.sheet_salvage.proofs.Lays.{after_none}
+use Rattle.sheet_salvage.proofs.Points.{num-few, none-stroked, all_stroked, good_more, good-end}
+use Rattle.sheet_salvage.proofs.Turns.{count-more, end_within, end_next, end_last, saved-turn, saved_end, ignored_turn, ignored_end}
+use Rattle.sheet_salvage.proofs.count_strokes.Reads as reads
+use Rattle.sheet.proofs.numbers_from.Reads as numbers-from-reads
+use Rattle.sheet_salvage.proofs.count_stroke.Reads as count-stroke-reads
+use Rattle.sheet_salvage.proofs.end_of.Reads as end-of-reads
+use Rattle.sheet_salvage.proofs.count_strokes.Given as goal
+
+abbrev pub invariant-loop-i : goal.invariant-loop-i
+invariant-loop-i l = (1 ≤ l.i) × (l.i ≤ l.strokes + 1) × (l.a ≤ l.m) × (l.i ≤ l.strokes → l.a ≤ l.m - 1) × (l.strokes < l.i → cond (eqb l.strokes 0) 0 l.m ≤ l.a)
+    × (l.p.kept.points ≤ l.a) × (l.p.kept.starts ≤ l.a) × (l.p.good ≤ l.a) × (l.p.ignored + 1 ≤ l.i)
+    × (after l.p.kept (saved_by l.n (behind l.bytes l.k) l.m l.strokes (word_at l.bytes) l.i l.a) ≡ after l.initial.p.kept (saved_by l.n (behind l.bytes l.k) l.m l.strokes (word_at l.bytes) 1 0))
+    × (l.p.good + good_of l.n (gather (behind l.bytes l.k) l.a (cond (eqb l.strokes 0) 0 l.m - l.a)) ≡ good_of l.n (gather (behind l.bytes l.k) 0 (cond (eqb l.strokes 0) 0 l.m)))
+    × (l.p.ignored + ignored_by l.m l.strokes (word_at l.bytes) l.i l.a ≡ ignored_by l.m l.strokes (word_at l.bytes) 1 0)
+
+abbrev pub decreases-loop-i : goal.decreases-loop-i
+decreases-loop-i l = l.strokes + 1 - l.i

@@ -1,0 +1,16 @@
+use Rattle.refusal.specs.Outcome.{outcome}
+use mathlib.Core.Path.{sym, ◌∙◌}
+use borrow.Author.Tests.{not-true, not-false}
+use Rattle.refusal.specs.Refusals.{unless}
+use Rattle.sheet_salvage.specs.Call.{verdict_of, salvage_left}
+use Rattle.sheet_salvage.proofs.salvage_sheet.Reads as reads
+use Rattle.sheet_salvage.proofs.header_usable.Reads as header-usable-reads
+use Rattle.sheet_salvage.proofs.salvage_usable.Reads as salvage-usable-reads
+use Rattle.sheet_salvage.proofs.salvage_sheet.Goals as goal
+
+pub returns-then-not-header_usable : goal.returns-then-not-header_usable
+unfolding salvage_left verdict_of unless outcome
+returns-then-not-header_usable c = rw (sym c.header_usable.ensures ∙ c.if-not-header_usable.true)
+
+pub salvage_usable-requires : goal.salvage_usable-requires
+salvage_usable-requires c = sym c.header_usable.ensures ∙ c.if-not-header_usable.false

@@ -1,0 +1,13 @@
+use borrow.Author.Tests.{lt-ltb, le-ltb}
+use Rattle.sheet_salvage.proofs.start_after.Reads as reads
+use Rattle.sheet.proofs.word_at.Reads as word-at-reads
+use Rattle.sheet_salvage.proofs.start_after.Goals as goal
+
+pub returns-then-s-a : goal.returns-then-s-a
+returns-then-s-a c = rw (← c.word_at-s.ensures, le-ltb c.args.a c.word_at-s.result c.if-s-a.true)
+
+pub returns-then-m-s : goal.returns-then-m-s
+returns-then-m-s c = rw (← c.word_at-s.ensures, lt-ltb c.args.a c.word_at-s.result c.if-s-a.false, le-ltb c.word_at-s.result c.args.m c.if-m-s.true)
+
+pub returns : goal.returns
+returns c = rw (← c.word_at-s.ensures, lt-ltb c.args.a c.word_at-s.result c.if-s-a.false, lt-ltb c.word_at-s.result c.args.m c.if-m-s.false)
