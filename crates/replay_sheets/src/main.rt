@@ -3,23 +3,16 @@
 // A row is words of hexadecimal digits with a space between: the call's number, the status, how many numbers each list has, the
 // other numbers, the lists and, where the call is accepted, its counts and what it wrote; a byte is a word. What is lent holds a
 // pattern, so that what must stay is seen. A row that is no row of a call counts as one that differs.
-use libc::STDIN_FILENO;
-use replay_rows::Answer;
-use replay_rows::DIRT;
-use replay_rows::DUST;
-use replay_rows::begins_bytes;
-use replay_rows::bytes;
-use replay_rows::elements;
-use replay_rows::head_is;
-use replay_rows::number;
-use replay_rows::numbers;
-use replay_rows::numbers_left;
-use replay_rows::past;
-use replay_rows::refused;
-use replay_rows::size;
-use replay_rows::take_byte;
+#![tactic(auto)]
+
+use replay_rows::{
+    Answer, DIRT, DUST, begins_bytes, bytes, elements, head_is, number, numbers, numbers_left,
+    past, refused, size, take_byte,
+};
 use sheet_read::SheetRead;
 use sheet_write::SheetWritten;
+use std::io;
+use std::io::Read;
 
 // How many functions are counted, with that of no row.
 const FUNCTIONS: usize = 3;
@@ -121,34 +114,43 @@ fn end_row(page: &mut [u64; 256], counts: &mut [u64; 64]) {
 }
 
 fn take_bytes(bytes: &[u8], page: &mut [u64; 256], counts: &mut [u64; 64]) {
-    let mut i = 0;
-    while i < bytes.len() {
-        if take_byte(page, bytes[i]) {
+    for b in bytes {
+        if take_byte(page, *b) {
             end_row(page, counts);
         }
-        i += 1;
     }
 }
 
 // Reads once and takes in what came; answers whether there may be more.
-fn read_some(page: &mut [u64; 256], counts: &mut [u64; 64]) -> bool {
-    let mut buffer = io::large_buffer();
-    let n = io::read_full(STDIN_FILENO, &mut buffer);
+fn read_some(
+    input: &mut impl Read,
+    page: &mut [u64; 256],
+    counts: &mut [u64; 64],
+) -> io::Result<bool> {
+    let mut buffer = [0u8; 65536];
+    let n = input.read(&mut buffer)?;
     take_bytes(&buffer[..n], page, counts);
-    n > 0
+    Ok(n > 0)
 }
 
-// Reads to the end. Nothing says that an input ends, so the turns are counted down from a number that no run uses up.
-fn read_rows(counts: &mut [u64; 64]) {
+// Reads to the end. Nothing says that an input ends, so the turns are counted to a number that no run uses up.
+fn read_rows(input: &mut impl Read, counts: &mut [u64; 64]) -> io::Result<()> {
     let mut page = [0u64; 256];
-    let mut turns = u64::MAX;
-    while turns > 0 && read_some(&mut page, counts) {
-        turns -= 1;
+    for _ in 0..u64::MAX {
+        if !read_some(input, &mut page, counts)? {
+            break;
+        }
     }
+    Ok(())
 }
 
-fn main() {
+fn main(rt: HostRuntime) -> io::Result<()> {
     let mut counts = [0u64; 64];
-    read_rows(&mut counts);
-    replay_rows::print_rows(b"no function     write_sheet     read_sheet      ", &counts);
+    read_rows(&mut rt.stdin(), &mut counts)?;
+    replay_rows::print_rows(
+        &rt,
+        b"no function     write_sheet     read_sheet      ",
+        &counts,
+    )?;
+    Ok(())
 }
