@@ -1,13 +1,15 @@
 // The cases of binary STL files: a line each, the case, what the call answers, and all that was lent to it. What is lent holds 7 in
 // every place before the call, so that what was written, what was cleared and what was left alone are seen. Numbers are told by their
 // patterns, in hexadecimal digits.
+#![tactic(auto)]
+
 ghost use Rattle.std.specs.Prelude.{◌≤◌};
 
 use byte_words::{put_word_from, word_from};
-use libc::STDOUT_FILENO;
 use mesh_weld::Welded;
 use mesh_weld::read::read_stl;
 use refusal::{MOST_FACES, Refusal};
+use std::io;
 use stl_write::{StlWritten, write_stl};
 
 // The number of pattern 7.
@@ -28,129 +30,140 @@ const MOST: u32 = 0x4980_0000;
 
 const MINUS_MOST: u32 = 0xc980_0000;
 
-fn text(s: &[u8]) {
-    io::write_all(STDOUT_FILENO, s);
+fn text(rt: &impl Print, s: &[u8]) -> io::Result<()> {
+    rt.write_all(s)
 }
 
-fn decimal(n: usize) {
-    io::print_decimal(STDOUT_FILENO, n as u64);
+fn decimal(rt: &impl Print, n: usize) -> io::Result<()> {
+    print!(rt; "{n}")
 }
 
-fn digits(pattern: u64) {
-    text(b" ");
-    io::print_hex(STDOUT_FILENO, pattern, 1);
+fn digits(rt: &impl Print, pattern: u64) -> io::Result<()> {
+    text(rt, b" ")?;
+    print!(rt; "{pattern:x}")
 }
 
-fn number(x: u32) {
-    digits(x as u64);
+fn number(rt: &impl Print, x: u32) -> io::Result<()> {
+    digits(rt, x as u64)
 }
 
-fn real(x: f64) {
+fn real(rt: &impl Print, x: f64) -> io::Result<()> {
     if x == x {
-        digits(f64::to_bits(x));
-        return;
+        return digits(rt, f64::to_bits(x));
     }
-    text(b" NaN");
+    text(rt, b" NaN")
 }
 
-fn numbers(list: &[u32]) {
-    let mut i = 0;
-    while i < list.len() {
-        number(list[i]);
-        i += 1;
+fn numbers(rt: &impl Print, list: &[u32]) -> io::Result<()> {
+    for x in list {
+        number(rt, *x)?;
     }
+    Ok(())
 }
 
-fn reals(list: &[f64]) {
-    let mut i = 0;
-    while i < list.len() {
-        real(list[i]);
-        i += 1;
+fn reals(rt: &impl Print, list: &[f64]) -> io::Result<()> {
+    for x in list {
+        real(rt, *x)?;
     }
+    Ok(())
 }
 
 // The word of a place, where it is another than the word before it.
-fn word(at: usize, w: u32, before: u32) {
+fn word(rt: &impl Print, at: usize, w: u32, before: u32) -> io::Result<()> {
     if w != before {
-        text(b", from ");
-        decimal(at);
-        number(w);
+        text(rt, b", from ")?;
+        decimal(rt, at)?;
+        number(rt, w)?;
     }
+    Ok(())
 }
 
 // The words of 136 bytes; those past the end are 0.
-fn words(bytes: &[u8]) {
+fn words(rt: &impl Print, bytes: &[u8]) -> io::Result<()> {
     let mut last = 1;
-    let mut i = 0;
-    while i < 34 {
+    for i in 0..34 {
         let w = word_from(bytes, 4 * i);
-        word(4 * i, w, last);
+        word(rt, 4 * i, w, last)?;
         last = w;
-        i += 1;
     }
+    Ok(())
 }
 
-fn refused(why: Refusal) {
-    text(b" refused ");
-    decimal(refusal::number(why) as usize);
+fn refused(rt: &impl Print, why: Refusal) -> io::Result<()> {
+    text(rt, b" refused ")?;
+    decimal(rt, refusal::number(why) as usize)
 }
 
 // ---- reading
 
-fn welded(r: Welded) {
+fn welded(rt: &impl Print, r: Welded) -> io::Result<()> {
     match r {
         Welded::Wrote {
             vertices: v,
             indices: m,
         } => {
-            text(b" wrote ");
-            decimal(v);
-            text(b" and ");
-            decimal(m);
+            text(rt, b" wrote ")?;
+            decimal(rt, v)?;
+            text(rt, b" and ")?;
+            decimal(rt, m)?;
         }
-        Welded::Refused(why) => refused(why),
+        Welded::Refused(why) => refused(rt, why)?,
     }
+    Ok(())
 }
 
 // All that reading was lent.
-fn lists(scratch: &[u32], vertices: &[f64], indices: &[u32]) {
-    text(b", vertices");
-    reals(vertices);
-    text(b", indices");
-    numbers(indices);
-    text(b", scratch");
-    numbers(scratch);
-    text(b"\n");
+fn lists(rt: &impl Print, scratch: &[u32], vertices: &[f64], indices: &[u32]) -> io::Result<()> {
+    text(rt, b", vertices")?;
+    reals(rt, vertices)?;
+    text(rt, b", indices")?;
+    numbers(rt, indices)?;
+    text(rt, b", scratch")?;
+    numbers(rt, scratch)?;
+    text(rt, b"\n")
 }
 
-fn read(what: &[u8], file: &[u8], scratch: &mut [u32], vertices: &mut [f64], indices: &mut [u32]) {
-    text(what);
-    welded(read_stl(file, scratch, vertices, indices));
-    lists(scratch, vertices, indices);
+fn read(
+    rt: &impl Print,
+    what: &[u8],
+    file: &[u8],
+    scratch: &mut [u32],
+    vertices: &mut [f64],
+    indices: &mut [u32],
+) -> io::Result<()> {
+    text(rt, what)?;
+    welded(rt, read_stl(file, scratch, vertices, indices))?;
+    lists(rt, scratch, vertices, indices)
 }
 
 // Reads with ns words of scratch, and room for nv coordinates and ni indices.
-fn read_with(what: &[u8], file: &[u8], ns: usize, nv: usize, ni: usize)
+fn read_with(
+    rt: &impl Print,
+    what: &[u8],
+    file: &[u8],
+    ns: usize,
+    nv: usize,
+    ni: usize,
+) -> io::Result<()>
     requires { (ns ≤ 13) × (nv ≤ 10) × (ni ≤ 4) }
 {
     let mut scratch = [7u32; 13];
     let mut vertices = [SEVEN; 10];
     let mut indices = [7u32; 4];
     read(
+        rt,
         what,
         file,
         &mut scratch[..ns],
         &mut vertices[..nv],
         &mut indices[..ni],
-    );
+    )
 }
 
 // Stores words from the count of faces on.
 fn put_words(file: &mut [u8], words: &[u32; 14]) {
-    let mut i = 0;
-    while i < 14 {
+    for i in 0..14 {
         put_word_from(file, 80 + 4 * i, words[i]);
-        i += 1;
     }
 }
 
@@ -164,86 +177,111 @@ fn put_file(file: &mut [u8], count: u32, a: u32, c: u32) {
 }
 
 // Reads such a face, with so much lent.
-fn read_face(what: &[u8], a: u32, c: u32, ns: usize, nv: usize, ni: usize)
+fn read_face(
+    rt: &impl Print,
+    what: &[u8],
+    a: u32,
+    c: u32,
+    ns: usize,
+    nv: usize,
+    ni: usize,
+) -> io::Result<()>
     requires { (ns ≤ 13) × (nv ≤ 10) × (ni ≤ 4) }
 {
     let mut file = [0u8; 134];
     put_file(&mut file[..], 1, a, c);
-    read_with(what, &file[..], ns, nv, ni);
+    read_with(rt, what, &file[..], ns, nv, ni)
 }
 
 // Reads the first n bytes of a file of one face that says it has so many.
-fn read_cut(what: &[u8], count: u32, n: usize)
+fn read_cut(rt: &impl Print, what: &[u8], count: u32, n: usize) -> io::Result<()>
     requires { n ≤ 135 }
 {
     let mut file = [0u8; 135];
     put_file(&mut file[..], count, 0, TWO);
-    read_with(what, &file[..n], 13, 10, 4);
+    read_with(rt, what, &file[..n], 13, 10, 4)
 }
 
 // Reads a file of one face too many, where every number is NaN.
-fn read_one_face_more() {
+fn read_one_face_more(rt: &impl Print) -> io::Result<()> {
     let mut file = [255u8; 50 * MOST_FACES + 134];
     put_word_from(&mut file[..], 80, 65537);
     read_with(
+        rt,
         b"65,537 faces in full, all NaN, room for one:",
         &file[..],
         13,
         10,
         4,
-    );
+    )
 }
 
-fn read_faces() {
+fn read_faces(rt: &impl Print) -> io::Result<()> {
     read_face(
+        rt,
         b"\"solid ..\", normal NaN, 0xBEEF, x = 0, 1, -0:",
         0,
         MINUS_ZERO,
         13,
         10,
         4,
-    );
-    read_face(b"x = -0, 1, 0:", MINUS_ZERO, 0, 13, 10, 4);
-    read_face(b"x = 2^-149, 1, 2:", 1, TWO, 13, 10, 4);
-    read_face(b"x = 1048576, 1, -1048576:", MOST, MINUS_MOST, 13, 10, 4);
-    read_face(b"1048576.125, 11 words:", MOST + 1, TWO, 11, 10, 4);
-    read_face(b"NaN, 11 words:", NAN, TWO, 11, 10, 4);
-    read_face(b"infinity, 11 words:", INFINITY, TWO, 11, 10, 4);
-    read_face(b"11 words:", 0, TWO, 11, 10, 4);
-    read_face(b"room for 8 coordinates:", 0, TWO, 12, 8, 4);
-    read_face(b"room for 2 indices:", 0, TWO, 12, 9, 2);
+    )?;
+    read_face(rt, b"x = -0, 1, 0:", MINUS_ZERO, 0, 13, 10, 4)?;
+    read_face(rt, b"x = 2^-149, 1, 2:", 1, TWO, 13, 10, 4)?;
+    read_face(
+        rt,
+        b"x = 1048576, 1, -1048576:",
+        MOST,
+        MINUS_MOST,
+        13,
+        10,
+        4,
+    )?;
+    read_face(rt, b"1048576.125, 11 words:", MOST + 1, TWO, 11, 10, 4)?;
+    read_face(rt, b"NaN, 11 words:", NAN, TWO, 11, 10, 4)?;
+    read_face(rt, b"infinity, 11 words:", INFINITY, TWO, 11, 10, 4)?;
+    read_face(rt, b"11 words:", 0, TWO, 11, 10, 4)?;
+    read_face(rt, b"room for 8 coordinates:", 0, TWO, 12, 8, 4)?;
+    read_face(rt, b"room for 2 indices:", 0, TWO, 12, 9, 2)
 }
 
-fn read_cuts() {
-    read_cut(b"83 bytes:", 1, 83);
-    read_cut(b"one face, a byte more:", 1, 135);
-    read_cut(b"one face, a byte less:", 1, 133);
-    read_cut(b"no bytes:", 1, 0);
-    read_cut(b"count 65,537 in 134 bytes:", 65537, 134);
-    read_cut(b"count 85,899,346 in 88 bytes:", 85899346, 88);
+fn read_cuts(rt: &impl Print) -> io::Result<()> {
+    read_cut(rt, b"83 bytes:", 1, 83)?;
+    read_cut(rt, b"one face, a byte more:", 1, 135)?;
+    read_cut(rt, b"one face, a byte less:", 1, 133)?;
+    read_cut(rt, b"no bytes:", 1, 0)?;
+    read_cut(rt, b"count 65,537 in 134 bytes:", 65537, 134)?;
+    read_cut(rt, b"count 85,899,346 in 88 bytes:", 85899346, 88)
 }
 
 // ---- writing
 
-fn written(r: StlWritten) {
+fn written(rt: &impl Print, r: StlWritten) -> io::Result<()> {
     match r {
         StlWritten::Wrote { bytes: n } => {
-            text(b" wrote ");
-            decimal(n);
+            text(rt, b" wrote ")?;
+            decimal(rt, n)?;
         }
-        StlWritten::Refused(why) => refused(why),
+        StlWritten::Refused(why) => refused(rt, why)?,
     }
+    Ok(())
 }
 
-fn write(what: &[u8], vertices: &[f64], indices: &[u32], out: &mut [u8]) {
-    text(what);
-    written(write_stl(vertices, indices, out));
-    words(out);
-    text(b"\n");
+fn write(
+    rt: &impl Print,
+    what: &[u8],
+    vertices: &[f64],
+    indices: &[u32],
+    out: &mut [u8],
+) -> io::Result<()> {
+    text(rt, what)?;
+    written(rt, write_stl(vertices, indices, out))?;
+    words(rt, out)?;
+    text(rt, b"\n")
 }
 
 // Writes three vertices that are one face, and reads that again.
-fn write_and_read() {
+fn write_and_read(rt: &impl Print) -> io::Result<()> {
     let vertices = [
         -0.0,
         0.5,
@@ -258,48 +296,61 @@ fn write_and_read() {
     let indices = [0u32, 1, 2];
     let mut out = [7u8; 136];
     write(
+        rt,
         b"writing (-0,0.5,2^-149) (1048576,0,0) (0,1,0):",
         &vertices[..],
         &indices[..],
         &mut out[..],
-    );
-    read_with(b"read again:", &out[..134], 13, 10, 4);
+    )?;
+    read_with(rt, b"read again:", &out[..134], 13, 10, 4)
 }
 
 // Writes no faces, and reads that again with nothing lent.
-fn write_none() {
+fn write_none(rt: &impl Print) -> io::Result<()> {
     let vertices = [0.0; 3];
     let indices = [0u32; 3];
     let mut out = [7u8; 136];
-    write(b"no faces:", &vertices[..0], &indices[..0], &mut out[..]);
-    read_with(b"read again, nothing lent:", &out[..84], 0, 0, 0);
+    write(
+        rt,
+        b"no faces:",
+        &vertices[..0],
+        &indices[..0],
+        &mut out[..],
+    )?;
+    read_with(rt, b"read again, nothing lent:", &out[..84], 0, 0, 0)
 }
 
 // Writes the face of the vertices 0, 1 and `last` of four, where the fourth is (x,0,0), into so many bytes.
-fn write_with(what: &[u8], x: f64, last: u32, room: usize)
+fn write_with(rt: &impl Print, what: &[u8], x: f64, last: u32, room: usize) -> io::Result<()>
     requires { room ≤ 136 }
 {
     let vertices = [0.0, 0.0, 0.0, 1.0, 0.0, 0.0, 0.0, 1.0, 0.0, x, 0.0, 0.0];
     let indices = [0u32, 1, last];
     let mut out = [7u8; 136];
-    write(what, &vertices[..], &indices[..], &mut out[..room]);
+    write(rt, what, &vertices[..], &indices[..], &mut out[..room])
 }
 
-fn write_cases() {
-    write_with(b"0.1 in a vertex that no face names:", 0.1, 2, 136);
-    write_with(b"NaN in one that no face names:", 0.0 / 0.0, 2, 136);
-    write_with(b"0.1 in one that a face names:", 0.1, 3, 136);
-    write_with(b"2^-150:", 7.006492321624085e-46, 3, 136);
-    write_with(b"1 + 2^-24:", 1.0000000596046448, 3, 136);
-    write_with(b"room for 133 bytes:", 1.0, 3, 133);
-    write_with(b"vertex 4 of four, one of which is NaN:", 0.0 / 0.0, 4, 136);
+fn write_cases(rt: &impl Print) -> io::Result<()> {
+    write_with(rt, b"0.1 in a vertex that no face names:", 0.1, 2, 136)?;
+    write_with(rt, b"NaN in one that no face names:", 0.0 / 0.0, 2, 136)?;
+    write_with(rt, b"0.1 in one that a face names:", 0.1, 3, 136)?;
+    write_with(rt, b"2^-150:", 7.006492321624085e-46, 3, 136)?;
+    write_with(rt, b"1 + 2^-24:", 1.0000000596046448, 3, 136)?;
+    write_with(rt, b"room for 133 bytes:", 1.0, 3, 133)?;
+    write_with(
+        rt,
+        b"vertex 4 of four, one of which is NaN:",
+        0.0 / 0.0,
+        4,
+        136,
+    )
 }
 
-fn main() {
-    read_faces();
-    read_cuts();
-    read_one_face_more();
-    write_and_read();
-    write_none();
-    write_cases();
+fn main(rt: HostRuntime) -> io::Result<()> {
+    read_faces(&rt)?;
+    read_cuts(&rt)?;
+    read_one_face_more(&rt)?;
+    write_and_read(&rt)?;
+    write_none(&rt)?;
+    write_cases(&rt)
 }

@@ -4,7 +4,8 @@
 // A row is words of hexadecimal digits with a space between: the call's number, the status, how many numbers each list has, the
 // other numbers, the lists and, where the call is accepted, its counts and what it wrote, or else the face that the refusal carries, if
 // it carries one. What is lent holds a pattern, so that what must stay is seen. A row that is no row of a call counts as one that differs.
-use libc::STDIN_FILENO;
+#![tactic(auto)]
+
 use mesh_contour::Contoured;
 use mesh_draw::Drawing;
 use mesh_section::{Plane, Sectioned};
@@ -14,6 +15,8 @@ use replay_rows::{
     Answer, DIRT, GRIT, number, numbers, numbers_left, past, points_left, real_at, reals, refused,
     scratch_left, seen_left, size, take_byte, word, wrote,
 };
+use std::io;
+use std::io::Read;
 use vector::Vector;
 
 // How many functions are counted, with that of no row.
@@ -262,37 +265,43 @@ fn end_row(page: &mut [u64; 256], counts: &mut [u64; 64]) {
 }
 
 fn take_bytes(bytes: &[u8], page: &mut [u64; 256], counts: &mut [u64; 64]) {
-    let mut i = 0;
-    while i < bytes.len() {
-        if take_byte(page, bytes[i]) {
+    for b in bytes {
+        if take_byte(page, *b) {
             end_row(page, counts);
         }
-        i += 1;
     }
 }
 
 // Reads once and takes in what came; answers whether there may be more.
-fn read_some(page: &mut [u64; 256], counts: &mut [u64; 64]) -> bool {
-    let mut buffer = io::large_buffer();
-    let n = io::read_full(STDIN_FILENO, &mut buffer);
+fn read_some(
+    input: &mut impl Read,
+    page: &mut [u64; 256],
+    counts: &mut [u64; 64],
+) -> io::Result<bool> {
+    let mut buffer = [0u8; 65536];
+    let n = input.read(&mut buffer)?;
     take_bytes(&buffer[..n], page, counts);
-    n > 0
+    Ok(n > 0)
 }
 
-// Reads to the end. Nothing says that an input ends, so the turns are counted down from a number that no run uses up.
-fn read_rows(counts: &mut [u64; 64]) {
+// Reads to the end. Nothing says that an input ends, so the turns are counted to a number that no run uses up.
+fn read_rows(input: &mut impl Read, counts: &mut [u64; 64]) -> io::Result<()> {
     let mut page = [0u64; 256];
-    let mut turns = u64::MAX;
-    while turns > 0 && read_some(&mut page, counts) {
-        turns -= 1;
+    for _ in 0..u64::MAX {
+        if !read_some(input, &mut page, counts)? {
+            break;
+        }
     }
+    Ok(())
 }
 
-fn main() {
+fn main(rt: HostRuntime) -> io::Result<()> {
     let mut counts = [0u64; 64];
-    read_rows(&mut counts);
+    read_rows(&mut rt.stdin(), &mut counts)?;
     replay_rows::print_rows(
+        &rt,
         b"no function     draw            weld            section         contour         ",
         &counts,
-    );
+    )?;
+    Ok(())
 }

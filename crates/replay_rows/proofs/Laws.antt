@@ -1,7 +1,6 @@
 -- What the proofs of the functions share.
 use Rattle.std.proofs.Common.{◌≡◌, ℕ, zero, suc, ◌+◌, ◌<◌, ◌≤◌, Bool, true, false, cond, not, ◌&&◌, T, ltb, List, set, sym, refl, ap, ◌∙◌, add-one, arith, ltb-false, ltb-true, le-ltb, lt-ltb}
-use borrow.Author.Tests.{not-true, not-false}
-use lib.Ieee.{Float, nan, inf, fin, binary64, eq, is_nan, of_bits, nan_bits, div}
+use lib.Ieee.{Float, nan, inf, fin, binary64, eq, is_nan, of_bits, nan_bits}
 use lib.Ieee.Bits.{nan_bits_is}
 use Rattle.replay_rows.specs.Lists.{filled, each}
 use Rattle.replay_rows.specs.Rows.{fits_in, bumped}
@@ -75,11 +74,11 @@ pub each-end : (ok : ℕ → Bool) (i n : ℕ) → each ok i ≡ true → i ≡ 
 each-end ok i n e h = sym e ∙ ap (each ok) h
 
 -- what the test of a word tells
-pub told-no : (same : ℕ → Bool) (r : Bool) (w v : ℕ) → r ≡ same w → w ≡ v → not r ≡ true → same v ≡ false
-told-no same r w v e h t = sym (e ∙ ap same h) ∙ not-true r t
+pub told-no : (same : ℕ → Bool) (r : Bool) (w v : ℕ) → r ≡ same w → w ≡ v → r ≡ false → same v ≡ false
+told-no same r w v e h t = sym (e ∙ ap same h) ∙ t
 
-pub told-yes : (same : ℕ → Bool) (r : Bool) (w v : ℕ) → r ≡ same w → w ≡ v → not r ≡ false → same v ≡ true
-told-yes same r w v e h t = sym (e ∙ ap same h) ∙ not-false r t
+pub told-yes : (same : ℕ → Bool) (r : Bool) (w v : ℕ) → r ≡ same w → w ≡ v → r ≡ true → same v ≡ true
+told-yes same r w v e h t = sym (e ∙ ap same h) ∙ t
 
 -- two counts more
 pub two : (s t u : List ℕ) (k j : ℕ) → k ≡ j → t ≡ bumped s k → u ≡ bumped t (32 + k) → u ≡ bumped (bumped s j) (32 + j)

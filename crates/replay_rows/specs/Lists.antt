@@ -1,5 +1,5 @@
 -- Lists that are filled from a row and held to one.
-use Rattle.std.specs.Prelude.{ℕ, zero, suc, Bool, true, cond, ◌&&◌, List, set, nat_lt, slice_set}
+use Rattle.std.specs.Prelude.{ℕ, zero, suc, Bool, true, cond, ◌&&◌, List, nat_lt, slice_set}
 use Rattle.replay_rows.specs.Words.{word_of, past_of}
 
 -- the first n elements set by a rule

@@ -3,7 +3,9 @@
 // A row is words of hexadecimal digits with a space between: the function's number, the status, and what the function takes and
 // gives. Two NaN count as equal. A page holds the words of the row that is being read, and after them how many of them are whole
 // and whether a byte came that belongs to no row.
-ghost use Rattle.std.specs.Prelude.{◌≡◌, ◌*◌, ◌<◌, ◌≤◌, length, replicate, ◌==◌, from_bits};
+#![tactic(auto)]
+
+ghost use Rattle.std.specs.Prelude.{◌≡◌, ◌*◌, ◌<◌, ◌≤◌, length, replicate, ◌==◌, from_bits, IfOk};
 ghost use Rattle.std.specs.Float.{binary64};
 ghost use Rattle.std.specs.Float.Ieee.{nan_bits};
 ghost use Rattle.replay_rows.specs.Words.{plus_zero, same_of, word_of, past_of, list_size, u32_of, real_of, byte_of};
@@ -11,7 +13,7 @@ ghost use Rattle.replay_rows.specs.Lists.{filled, expected};
 ghost use Rattle.replay_rows.specs.Answers.{wrote_of, refused_by, ends_at, elements_of, count_is, counts_are, head_is, words_are, reals_are, points_left, numbers_left, scratch_of};
 ghost use Rattle.replay_rows.specs.Rows.{hex_of, fits_in, with_digit, with_end, fed, kind_of, good_row, bumped, counted, names_in};
 
-use libc::STDOUT_FILENO;
+use std::io;
 
 // The places of a page after its words.
 const WORDS: usize = 248;
@@ -490,16 +492,12 @@ pub fn end_row(page: &mut [u64; 256], counts: &mut [u64; 64], functions: usize, 
 
 // ---- what is printed
 
-fn print(text: &[u8]) {
-    io::write_all(STDOUT_FILENO, text);
+fn print(rt: &impl Print, text: &[u8]) -> io::Result<()> {
+    rt.write_all(text)
 }
 
-fn print_counts(rows: u64, differ: u64) {
-    print(b" ");
-    io::print_decimal(STDOUT_FILENO, rows);
-    print(b" rows, ");
-    io::print_decimal(STDOUT_FILENO, differ);
-    print(b" differ\n");
+fn print_counts(rt: &impl Print, rows: u64, differ: u64) -> io::Result<()> {
+    println!(rt; " {rows} rows, {differ} differ")
 }
 
 // The sum of 32 counts.
@@ -527,27 +525,26 @@ fn named(names: &[u8]) -> usize
 }
 
 // Prints a line for each of n names.
-fn print_lines(names: &[u8], counts: &[u64; 64], n: usize)
+fn print_lines(rt: &impl Print, names: &[u8], counts: &[u64; 64], n: usize) -> io::Result<()>
     requires { (n ≤ 32) × (n * 16 ≤ length names.now) }
 {
-    let mut k = 0;
-    while k < n {
+    for k in 0..n {
         let at = k * 16;
         let end = at + 16;
-        print(&names[at..end]);
-        print_counts(counts[k], counts[32 + k]);
-        k += 1;
+        print(rt, &names[at..end])?;
+        print_counts(rt, counts[k], counts[32 + k])?;
     }
+    Ok(())
 }
 
 // Prints a line for each name of sixteen bytes, at most 32, and one for all, and answers how many names there are. No contract can
 // say what is printed.
-pub fn print_rows(names: &[u8], counts: &[u64; 64]) -> usize
-    ensures { result ≡ names_in (length names.now) }
+pub fn print_rows(rt: &impl Print, names: &[u8], counts: &[u64; 64]) -> io::Result<usize>
+    ensures { IfOk result (λ n. n ≡ names_in (length names.now)) }
 {
     let n = named(names);
-    print_lines(names, counts, n);
-    print(b"all             ");
-    print_counts(sum(counts, 0), sum(counts, 32));
-    n
+    print_lines(rt, names, counts, n)?;
+    print(rt, b"all             ")?;
+    print_counts(rt, sum(counts, 0), sum(counts, 32))?;
+    Ok(n)
 }

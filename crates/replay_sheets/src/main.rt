@@ -1,19 +1,21 @@
-// Works the stored rows of write_sheet, read_sheet and salvage_sheet out by the proved crates, and counts those whose answer is another.
+// Works the stored rows of write_sheet and read_sheet out by the proved crates, and counts those whose answer is another.
 //
 // A row is words of hexadecimal digits with a space between: the call's number, the status, how many numbers each list has, the
 // other numbers, the lists and, where the call is accepted, its counts and what it wrote; a byte is a word. What is lent holds a
 // pattern, so that what must stay is seen. A row that is no row of a call counts as one that differs.
-use libc::STDIN_FILENO;
+#![tactic(auto)]
+
 use replay_rows::{
     Answer, DIRT, DUST, begins_bytes, bytes, elements, head_is, number, numbers, numbers_left,
-    past, refused, size, take_byte, word,
+    past, refused, size, take_byte,
 };
 use sheet_read::SheetRead;
-use sheet_salvage::Salvaged;
 use sheet_write::SheetWritten;
+use std::io;
+use std::io::Read;
 
 // How many functions are counted, with that of no row.
-const FUNCTIONS: usize = 4;
+const FUNCTIONS: usize = 3;
 
 // ---- writing: how many numbers the lists have, the mode, the vertices, the lists
 
@@ -94,55 +96,11 @@ fn read_agrees(page: &[u64; 256]) -> bool {
     read_leaves(page, past(3, nb), &sheet[..nb])
 }
 
-// ---- salvaging: how many bytes there are, the bytes; five counts
-
-fn salvage_answer(n: usize, offsets: usize, starts: usize, numbers: usize) -> Answer {
-    Answer {
-        status: 0,
-        counts: 4,
-        first: n as u64,
-        second: offsets as u64,
-        third: starts as u64,
-        fourth: numbers as u64,
-    }
-}
-
-// Whether a salvaged sheet was left as the row says from place `at` on. The fifth count is a word of its own, before the bytes.
-fn salvaged_left(page: &[u64; 256], at: usize, a: Answer, leftovers: u64, out: &[u8]) -> bool {
-    let n = elements(a.first);
-    let p = past(at, a.counts);
-    head_is(page, at, a, 1, n)
-        && word(page, p) == leftovers
-        && begins_bytes(page, past(p, 1), n, out, DUST as u64)
-}
-
-// Whether salvage_sheet leaves what the row says from place `at` on. There is room for 56 bytes.
-fn salvage_leaves(page: &[u64; 256], at: usize, sheet: &[u8]) -> bool {
-    let mut out = [DUST; 56];
-    match sheet_salvage::salvage_sheet(sheet, &mut out[..]) {
-        Salvaged::Wrote {
-            bytes: n,
-            offsets: o,
-            starts: s,
-            numbers: w,
-            leftovers: l,
-        } => salvaged_left(page, at, salvage_answer(n, o, s, w), l as u64, &out[..]),
-        Salvaged::Refused(why) => bytes_left(page, at, refused(refusal::number(why)), &out[..]),
-    }
-}
-
-fn salvage_agrees(page: &[u64; 256]) -> bool {
-    let nb = size(page, 2);
-    let sheet = bytes(page, 3);
-    salvage_leaves(page, past(3, nb), &sheet[..nb])
-}
-
 // A row of no call does not agree.
 fn agrees(page: &[u64; 256]) -> bool {
     match page[0] {
         1 => write_agrees(page),
         2 => read_agrees(page),
-        3 => salvage_agrees(page),
         _ => false,
     }
 }
@@ -156,37 +114,43 @@ fn end_row(page: &mut [u64; 256], counts: &mut [u64; 64]) {
 }
 
 fn take_bytes(bytes: &[u8], page: &mut [u64; 256], counts: &mut [u64; 64]) {
-    let mut i = 0;
-    while i < bytes.len() {
-        if take_byte(page, bytes[i]) {
+    for b in bytes {
+        if take_byte(page, *b) {
             end_row(page, counts);
         }
-        i += 1;
     }
 }
 
 // Reads once and takes in what came; answers whether there may be more.
-fn read_some(page: &mut [u64; 256], counts: &mut [u64; 64]) -> bool {
-    let mut buffer = io::large_buffer();
-    let n = io::read_full(STDIN_FILENO, &mut buffer);
+fn read_some(
+    input: &mut impl Read,
+    page: &mut [u64; 256],
+    counts: &mut [u64; 64],
+) -> io::Result<bool> {
+    let mut buffer = [0u8; 65536];
+    let n = input.read(&mut buffer)?;
     take_bytes(&buffer[..n], page, counts);
-    n > 0
+    Ok(n > 0)
 }
 
-// Reads to the end. Nothing says that an input ends, so the turns are counted down from a number that no run uses up.
-fn read_rows(counts: &mut [u64; 64]) {
+// Reads to the end. Nothing says that an input ends, so the turns are counted to a number that no run uses up.
+fn read_rows(input: &mut impl Read, counts: &mut [u64; 64]) -> io::Result<()> {
     let mut page = [0u64; 256];
-    let mut turns = u64::MAX;
-    while turns > 0 && read_some(&mut page, counts) {
-        turns -= 1;
+    for _ in 0..u64::MAX {
+        if !read_some(input, &mut page, counts)? {
+            break;
+        }
     }
+    Ok(())
 }
 
-fn main() {
+fn main(rt: HostRuntime) -> io::Result<()> {
     let mut counts = [0u64; 64];
-    read_rows(&mut counts);
+    read_rows(&mut rt.stdin(), &mut counts)?;
     replay_rows::print_rows(
-        b"no function     write_sheet     read_sheet      salvage_sheet   ",
+        &rt,
+        b"no function     write_sheet     read_sheet      ",
         &counts,
-    );
+    )?;
+    Ok(())
 }

@@ -1,0 +1,9 @@
+-- No more is read than there is room; each turn leaves less room.
+use Rattle.std.proofs.Common.{◌≤◌, ◌-◌, length}
+use Rattle.list.proofs.read_full.Given as goal
+
+abbrev pub invariant-loop-n : goal.invariant-loop-n
+invariant-loop-n g l = l.n ≤ length l.room
+
+abbrev pub decreases-loop-n : goal.decreases-loop-n
+decreases-loop-n g l = length l.room - l.n

@@ -1,0 +1,5 @@
+-- `scratch_left` meets its contract.
+use Rattle.replay_rows.proofs.scratch_left.Goals as goal
+
+pub returns : goal.returns
+returns c = rw (← c.scratch_of.ensures) c.begins.ensures
