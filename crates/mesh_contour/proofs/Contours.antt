@@ -32,23 +32,23 @@ use Rattle.mesh_contour.proofs.Segments.{Pairs, at_most, all_pairs_lem}
 use Rattle.mesh_contour.proofs.Back.{read_back}
 
 -- n faces, within the limit, with the scratch and the room that they ask for
-pub record Granted (n words numbers room startRoom : ℕ) : Type 0 where
+pub record Granted (n words numbers room start_room : ℕ) : Type 0 where
   pub few : n ≤ most_faces
   pub enough_words : 16 * n ≤ words
   pub enough_numbers : 8 * n ≤ numbers
   pub enough_room : n * 6 ≤ room
-  pub enough_starts : n ≤ startRoom
+  pub enough_starts : n ≤ start_room
 
 -- what passes the tests is granted all that, and every corner is there
-module _ (vs : List Float) (is : List ℕ) (p : Plane) (tolerance : Float) (words numbers room startRoom : ℕ) (v : Verdict) (told : v ≡ verdict_of vs is p tolerance words numbers room startRoom) (yes : v ≡ Accepted) where
-  pub granted : Granted (length is / 3) words numbers room startRoom
+module _ (vs : List Float) (is : List ℕ) (p : Plane) (tolerance : Float) (words numbers room start_room : ℕ) (v : Verdict) (told : v ≡ verdict_of vs is p tolerance words numbers room start_room) (yes : v ≡ Accepted) where
+  pub granted : Granted (length is / 3) words numbers room start_room
   unfolding verdict_of scratch_for room_for
   granted =
       let n = length is / 3 in
       let count = passed _ _ _ (passed _ _ _ (sym told ∙ yes)).1 in
       let scratch = passed _ _ _ (passed _ _ _ (passed _ _ _ count.1).1).1 in
       let s = both (leb (16 * n) words) (leb (8 * n) numbers) scratch.0 in
-      let r = both (leb (n * 6) room) (leb n startRoom) (passed _ _ _ scratch.1).0 in
+      let r = both (leb (n * 6) room) (leb n start_room) (passed _ _ _ scratch.1).0 in
       record {
         few = few_faces (length vs) (length is) count.0;
         enough_words = leb-true _ _ s.0;

@@ -44,13 +44,13 @@ scratch_for faces words numbers = leb (16 * faces) words && leb (8 * faces) numb
 
 -- the old section's tests, its room too, and scratch before room
 unfoldable pub verdict_of : List Float → List ℕ → Plane → Float → ℕ → ℕ → ℕ → ℕ → Verdict
-verdict_of vs is p tolerance words numbers room startRoom =
+verdict_of vs is p tolerance words numbers room start_room =
     unless (shaped_of (length vs) (length is)) Shape
     (unless (counted_of (length vs) (length is)) Count
     (unless (all_below (length vs / 3) is) Vertex
     (unless (numbers_good vs p tolerance) Number
     (unless (scratch_for (length is / 3) words numbers) Scratch
-    (unless (room_for (length is / 3) room startRoom) Room
+    (unless (room_for (length is / 3) room start_room) Room
     Accepted)))))
 
 unfoldable pub contour_left : List Float → List ℕ → Plane → Float → List ℕ → List Float → List Float → List ℕ → Outcome Lent

@@ -1,6 +1,6 @@
 -- The branches of `side_of` and of `without_sign`, and a crossing by its steps.
 use mathlib.Core.Path.{◌≡◌, ap, ◌∙◌}
-use mathlib.Core.Bool.{true, false, not}
+use mathlib.Core.Bool.{true, false}
 use lib.Ieee.{Float, binary64, sub, div, lt, eq, neg}
 use Rattle.vector.specs.declared.Vector.{Vector}
 use Rattle.vector.specs.Lengths.{zero64}

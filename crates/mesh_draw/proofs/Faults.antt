@@ -20,7 +20,6 @@ use Rattle.path.proofs.Tests.{passed, both}
 use Rattle.mesh.specs.declared.Triangle.{Triangle}
 use Rattle.mesh.specs.Meshes.{face_at, counted_of, all_below, vector_good}
 use Rattle.mesh.proofs.Tests.{all_reach}
-use Rattle.mesh_mode.specs.declared.Mode.{Mode}
 use Rattle.mesh_mode.specs.Modes.{needs_of}
 use Rattle.mesh_seen.specs.Normals.{flat_of, alike_of, flaw_of}
 use Rattle.mesh_seen.specs.Seen.{face_verdict, flat_from}

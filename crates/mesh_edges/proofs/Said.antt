@@ -3,7 +3,7 @@ use mathlib.Core.Path.{◌≡◌, refl, sym, ap, ◌∙◌}
 use mathlib.Core.Bool.{Bool, true, false, cond, ◌&&◌}
 use mathlib.Core.Logic.{inr}
 use mathlib.Core.List.{List, [], ◌∷◌, ◌++◌, map}
-use Prim.Native.Nat.{ℕ, zero, suc, ◌+◌, ◌-◌, ◌*◌, ◌<◌, ◌≤◌}
+use Prim.Native.Nat.{ℕ, zero, suc, ◌+◌, ◌*◌, ◌<◌, ◌≤◌}
 use native.Mathlib.Omega.{arith}
 use lib.ListN.{length, get_or, take, drop, replicate, length-append, length-take, length-replicate, get_or-append}
 use lib.Seq.{get_or-take, ext_get_or, get_or-append-add}
@@ -13,7 +13,7 @@ use Rattle.refusal.specs.Limits.{most_faces}
 use Rattle.order.specs.Regions.{region, put}
 use Rattle.order.proofs.Parts.{length-put, length-region, get_region, region-put}
 use Rattle.order.proofs.Sorted.{In}
-use Rattle.mesh_edges.specs.Edges.{low_of, high_of, pair_of, up_from, sides_of, groups_of}
+use Rattle.mesh_edges.specs.Edges.{low_of, high_of, pair_of, up_from, sides_of}
 use Rattle.mesh_edges.specs.InnerWords.{flag_of, side_words, edges_in, pair_in, alike, end_in}
 use Rattle.mesh_edges.proofs.Ups.{map_at, map-length, sides_length, side-below, sides_below}
 use Rattle.mesh_edges.proofs.Groups.{alike-agree}

@@ -1,5 +1,5 @@
 -- The modes of a drawing, what each needs, and their numbers.
-use Rattle.std.specs.Prelude.{Bool, true, false, cond, List, [], ◌∷◌, ℕ, zero, suc, Float}
+use Rattle.std.specs.Prelude.{true, false, cond, [], ◌∷◌, ℕ, zero, suc, Float}
 use Rattle.std.specs.Float.Ieee.{eq}
 use Rattle.refusal.specs.Said.{Said, accepted, refused}
 use Rattle.refusal.specs.declared.Refusal.TheVariants.{Number}

@@ -1,7 +1,7 @@
 -- The loop over the faces, and what a section has been tested for.
 use mathlib.Core.Path.{◌≡◌, refl, sym, ap, ◌∙◌}
 use mathlib.Core.Bool.{true}
-use mathlib.Core.List.{List, [], ◌∷◌, ◌++◌}
+use mathlib.Core.List.{List, [], ◌∷◌}
 use Prim.Native.Nat.{ℕ, zero, suc, ◌+◌, ◌-◌, ◌*◌, ◌/◌, ◌≤◌, ◌<◌}
 use native.Mathlib.Omega.{arith}
 use lib.ListN.{length, set, length-append}
@@ -21,7 +21,7 @@ use Rattle.mesh.specs.Meshes.{counted_of, reach_of}
 use Rattle.mesh_section.specs.declared.Plane.{Plane}
 use Rattle.mesh_section.specs.declared.Cut.{Cut}
 use Rattle.mesh_section.specs.declared.Cut.TheVariants.{Of, Nothing}
-use Rattle.mesh_section.specs.Section.{triangle_cut, cut_stroke, faces_cut, section_of}
+use Rattle.mesh_section.specs.Section.{triangle_cut, cut_stroke, faces_cut}
 use Rattle.mesh_section.specs.Call.{room_for, verdict_of}
 
 -- a cut written

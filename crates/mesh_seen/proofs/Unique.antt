@@ -1,6 +1,5 @@
 -- What the contract of `normal` permits is one answer.
 use mathlib.Core.Path.{◌≡◌, refl, ap}
-use mathlib.Core.List.{[], ◌∷◌}
 use Prim.Native.Nat.{ℕ}
 use native.Mathlib.Omega.{arith}
 use Rattle.refusal.specs.Refusals.{alike_number, no_length_number}

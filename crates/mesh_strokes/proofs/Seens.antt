@@ -1,12 +1,12 @@
 -- What is stored of the faces serves the rules in the place of the faces, and flips that don't matter may be left out.
 use mathlib.Core.Path.{◌≡◌, refl, sym, ap, ◌∙◌, subst}
-use mathlib.Core.Logic.{◌⊎◌, inl, inr}
+use mathlib.Core.Logic.{inl, inr}
 use mathlib.Core.Bool.{Bool, true, false, not, ◌&&◌, ◌||◌, cond}
 use mathlib.Core.List.{List, [], ◌∷◌, ◌++◌, map}
-use Prim.Native.Nat.{ℕ, ◌+◌, ◌*◌, ◌/◌, ◌%◌, ◌<◌, ◌≤◌}
+use Prim.Native.Nat.{ℕ, ◌*◌, ◌/◌, ◌%◌, ◌<◌, ◌≤◌}
 use native.Mathlib.Omega.{arith}
 use lib.ListN.{length}
-use lib.Ieee.{Float, binary64, mul, sub, lt, le}
+use lib.Ieee.{Float, binary64, mul, sub, lt}
 use Rattle.vector.specs.declared.Vector.{Vector}
 use Rattle.vector.specs.Vectors.{dot_of}
 use Rattle.vector.specs.Abs.{abs_of}
@@ -18,7 +18,7 @@ use Rattle.mesh_mode.specs.declared.Mode.TheVariants.{Triangles, Polygonal, Silh
 use Rattle.mesh_mode.specs.declared.Needs.{Needs}
 use Rattle.mesh_mode.specs.Modes.{needs_of}
 use Rattle.mesh_seen.specs.Seen.{seen_from}
-use Rattle.mesh_seen.proofs.Faces.{Kept, kept_seen}
+use Rattle.mesh_seen.proofs.Faces.{kept_seen}
 use Rattle.mesh_edges.specs.Edges.{face_of, low_of, high_of, edges_of}
 use Rattle.mesh_edges.proofs.Groups.{joined}
 use Rattle.mesh_edges.proofs.Ups.{sides_below}

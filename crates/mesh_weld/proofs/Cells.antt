@@ -1,10 +1,10 @@
 -- Cells as numbers that are counted up.
-use mathlib.Core.Path.{◌≡◌, refl, sym, ap, ◌∙◌, subst}
-use mathlib.Core.Bool.{Bool, true, false, cond, ◌&&◌}
+use mathlib.Core.Path.{◌≡◌, refl, sym, ap, ◌∙◌}
+use mathlib.Core.Bool.{Bool, true, false, cond}
 use Prim.Native.Nat.{ℕ, zero, suc, ◌+◌, ◌-◌, ◌*◌, ◌/◌, ◌^◌, ◌≤◌, ◌<◌}
 use native.Mathlib.Omega.{arith}
-use native.Mathlib.Nat.{div-lt_iff_lt-mul, le_of_lt, mul-lt-mul_of_pos_right, mul-le-mul_right}
-use lib.Dec.{T, ltb, eqb, ltb→lt, lt→ltb}
+use native.Mathlib.Nat.{div-lt_iff_lt-mul, le_of_lt, mul-lt-mul_of_pos_right}
+use lib.Dec.{ltb, eqb}
 use lib.IntN.{ℤ, pos, negsuc, neg_ℤ, nat_abs, suc_ℤ, pred_ℤ, ◌+ℤ◌}
 use lib.Ieee.{Float, nan, inf, fin, up, down, binary64, div}
 use lib.Ieee.Fits.{down_pos}
@@ -13,7 +13,7 @@ use mir.Val.{SFits, to_z, of_z}
 use mir.ValLaws.{to_z-of_z}
 use borrow.Author.Tests.{le-ltb, eq-eqb, ne_eqb, eqb-true, eqb-false, ltb-true}
 use Rattle.vector.specs.declared.Vector.{Vector}
-use mathlib.Core.List.{List, [], ◌∷◌}
+use mathlib.Core.List.{[], ◌∷◌}
 use lib.ListN.{get_or}
 use Rattle.refusal.specs.Said.{Said, accepted, refused}
 use Rattle.refusal.specs.declared.Refusal.TheVariants.{Number}

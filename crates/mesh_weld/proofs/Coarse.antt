@@ -1,9 +1,9 @@
 -- The 27 cells about one lie in eight coarse cells.
 use Rattle.path.specs.Strokes.{point_at}
-use mathlib.Core.Path.{◌≡◌, refl, ap, ◌∙◌, subst, sym}
+use mathlib.Core.Path.{◌≡◌, refl, sym}
 use mathlib.Core.Bool.{Bool, true, false}
-use mathlib.Core.List.{List, [], ◌∷◌}
-use Prim.Native.Nat.{ℕ, ◌+◌, ◌-◌, ◌/◌, ◌≤◌, ◌<◌}
+use mathlib.Core.List.{List, ◌∷◌}
+use Prim.Native.Nat.{ℕ, ◌+◌, ◌-◌, ◌/◌, ◌<◌}
 use native.Mathlib.Omega.{arith}
 use native.Mathlib.Numerals.{lt_of_le_of_ne}
 use lib.Dec.{eqb}

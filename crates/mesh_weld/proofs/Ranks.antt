@@ -3,19 +3,18 @@ use Rattle.path.specs.Strokes.{point_at}
 use mathlib.Core.Path.{◌≡◌, refl, sym, ap, ◌∙◌, subst}
 use mathlib.Core.Bool.{Bool, true, false, cond, ◌&&◌, true≢false}
 use mathlib.Core.List.{List}
-use Prim.Native.Nat.{ℕ, zero, suc, ◌+◌, ◌-◌, ◌*◌, ◌/◌, ◌%◌, ◌^◌, ◌≤◌, ◌<◌}
+use Prim.Native.Nat.{ℕ, zero, suc, ◌+◌, ◌-◌, ◌*◌, ◌%◌, ◌≤◌, ◌<◌}
 use native.Mathlib.Omega.{arith}
 use native.Mathlib.Numerals.{lt_of_le_of_ne}
-use lib.ListN.{length, get_or}
 use lib.Dec.{eqb, leb, ltb}
 use lib.Ieee.{Float}
-use borrow.Author.Tests.{eqb-true, eqb-false, eq-eqb, ne_eqb, leb-true, leb-false, le-leb, lt-leb, lt-ltb, le-ltb, ltb-true, ltb-false}
+use borrow.Author.Tests.{eqb-true, eqb-false, eq-eqb, leb-true, leb-false, lt-ltb, le-ltb, ltb-true, ltb-false}
 use Rattle.vector.specs.declared.Vector.{Vector}
 use Rattle.mesh_weld.specs.declared.Cube.{Cube}
 use Rattle.mesh_weld.specs.declared.Found.{Found}
 use Rattle.mesh_weld.specs.declared.Found.TheVariants.{At, Nothing}
 use Rattle.mesh_weld.specs.Weld.{near, or_else, oldest, find}
-use Rattle.mesh_weld.specs.InnerTable.{key, cube_of, Counted, place_of, rank_of, score_of, top, score_at, Least, Beside, About}
+use Rattle.mesh_weld.specs.InnerTable.{key, cube_of, Counted, place_of, rank_of, score_of, top, score_at, Least, About}
 use Rattle.mesh_weld.proofs.Finds.{hits, look_in, three_of, find-by}
 
 -- the place of a cell among three

@@ -1,7 +1,7 @@
 -- How the code finds the vertices of a cell: a table of digital search trees in scratch.
 use Rattle.path.specs.Strokes.{point_at}
 use Rattle.path.specs.InnerPushes.{put_point}
-use Rattle.std.specs.Prelude.{◌≡◌, Bool, cond, ◌||◌, List, [], ◌∷◌, ℕ, suc, ◌+◌, ◌-◌, ◌*◌, ◌/◌, ◌%◌, ◌^◌, ◌<◌, ◌≤◌, length, get_or, set, eqb, leb, ltb, ℤ, pos, negsuc, Float}
+use Rattle.std.specs.Prelude.{◌≡◌, Bool, cond, ◌||◌, List, [], ◌∷◌, ℕ, ◌+◌, ◌-◌, ◌*◌, ◌/◌, ◌%◌, ◌^◌, ◌<◌, ◌≤◌, length, get_or, set, eqb, leb, ltb, ℤ, pos, negsuc, Float}
 use Rattle.std.specs.Float.Ieee.{le, neg}
 use Rattle.vector.specs.declared.Vector.{Vector}
 use Rattle.mesh_weld.specs.declared.Cube.{Cube}

@@ -1,5 +1,5 @@
 -- The scan without roots: a distance is the root of a square, and roots keep the order.
-use Rattle.std.specs.Prelude.{◌≡◌, true, cond, ◌⊎◌, T, Float, ℕ, ◌-◌}
+use Rattle.std.specs.Prelude.{◌≡◌, true, cond, ◌⊎◌, T, Float, ℕ}
 use Rattle.std.specs.Float.{binary64}
 use Rattle.std.specs.Float.Ieee.{fits, lt}
 use Rattle.vector.specs.declared.Vector.{Vector}

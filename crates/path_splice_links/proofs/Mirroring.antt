@@ -13,7 +13,6 @@ use Rattle.order.specs.Sort.{regions_apart, sorted}
 use Rattle.order.proofs.Sorting.{inside-for, apart-before, apart-after, cut-for, sorted-yes}
 use Rattle.order.specs.Order.{order, word_key}
 use Rattle.path_splice_links.specs.Ends.{live_from, Lived}
-use Rattle.path_splice_rule.specs.Splice.{links}
 use Rattle.path_splice_links.specs.Runs.{Reach, Pair, Mirrored, Ranked, Linked}
 use Rattle.order.proofs.Sorted.{order-length}
 use Rattle.path_splice_links.proofs.Running.{mirrored_none, mirrored_more, Edge, linked_none, linked-more, edge_more, apart}

@@ -9,10 +9,8 @@ use lib.Dec.{leb}
 use borrow.Author.Tests.{leb-true}
 use Rattle.refusal.specs.Limits.{most_vertices, most_strokes, most_points}
 use Rattle.path.proofs.Tests.{both}
-use Rattle.path.specs.Laid.{non_empty, joined, starts_from}
-use Rattle.path.proofs.Pushes.{length-starts}
 use Rattle.byte_words.specs.Bytes.{bytes_all}
-use Rattle.sheet.specs.Sheets.{header_of, words_of, sheet_of, size_of, counts_good}
+use Rattle.sheet.specs.Sheets.{header_of, words_of, size_of, counts_good}
 use Rattle.byte_words.proofs.Words.{length-bytes}
 
 pub words_size : (m v : ℕ) (ks ns : List ℕ) → length (bytes_all (words_of m v ks ns)) ≡ size_of (length ks) (length ns)

@@ -1,13 +1,12 @@
 -- Digits, numbers and lines written one after the other.
 use mathlib.Core.Path.{◌≡◌, sym, ap, ◌∙◌}
 use mathlib.Core.List.{List, [], ◌∷◌, ◌++◌}
-use Prim.Native.Nat.{ℕ, zero, suc, ◌+◌, ◌-◌, ◌*◌, ◌/◌, ◌%◌, ◌≤◌, ◌<◌}
+use Prim.Native.Nat.{ℕ, suc, ◌+◌, ◌-◌, ◌*◌, ◌/◌, ◌%◌, ◌≤◌, ◌<◌}
 use native.Mathlib.Omega.{arith}
 use native.Mathlib.Numerals.{add-one}
-use native.Mathlib.Nat.{add-zero, mul_comm, le-div_iff_mul-le}
+use native.Mathlib.Nat.{mul_comm, le-div_iff_mul-le}
 use lib.ListN.{length, get_or, set, get_or-eq_default}
 use lib.Seq.{sets}
-use lib.Dec.{ltb}
 use borrow.Author.Tests.{lt-ltb, le-ltb}
 use Rattle.path.specs.Strokes.{gather}
 use Rattle.path.specs.Courses.{Course, course, advanced}

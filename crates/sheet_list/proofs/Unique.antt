@@ -5,7 +5,7 @@ use Prim.Native.Nat.{ℕ}
 use lib.Seq.{sets}
 use Rattle.refusal.specs.One.{One}
 use Rattle.refusal.proofs.Unique.{one-read}
-use Rattle.path.specs.Courses.{Course, course, advanced}
+use Rattle.path.specs.Courses.{course, advanced}
 use Rattle.sheet_list.specs.Listing.{text_of}
 
 pub one-text : (bs out : List ℕ) → One (ℕ × List ℕ) (λ o. course o.1 o.0 ≡ advanced sets (course out 0) (text_of bs))

@@ -9,7 +9,6 @@ use lib.Seq.{sets, set_comm}
 use Rattle.byte_words.specs.Bytes.{bytes_all}
 use Rattle.path.specs.Laid.{joined, starts_from}
 use Rattle.path.specs.declared.Place.{Place}
-use Rattle.sheet_salvage.specs.Salvage.{behind}
 use Rattle.sheet_salvage.specs.InnerPieces.{after, laid_at}
 
 -- ---- stores at places apart come to the same in either order

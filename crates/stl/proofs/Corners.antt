@@ -1,12 +1,12 @@
 -- Corner by corner through the coordinates of a file.
-use mathlib.Core.Path.{◌≡◌, refl, sym, ap, ◌∙◌}
+use mathlib.Core.Path.{◌≡◌, ap, ◌∙◌}
 use mathlib.Core.List.{List}
 use Prim.Native.Nat.{ℕ, ◌+◌, ◌*◌, ◌/◌, ◌%◌, ◌<◌}
 use native.Mathlib.Omega.{arith}
 use lib.ListN.{length, get_or}
 use lib.Ieee.{Float, nan}
 use Rattle.vector.specs.declared.Vector.{Vector}
-use Rattle.path.specs.Strokes.{gather, point_at}
+use Rattle.path.specs.Strokes.{point_at}
 use Rattle.path.proofs.Gathers.{length-gather, gather-at}
 use Rattle.stl.specs.Files.{faces_from, face_bytes, point_bytes, face_numbers, place_of, faces_in, coordinate_in, corner_in, coordinates_in}
 

@@ -4,12 +4,11 @@ use mathlib.Core.Bool.{Bool}
 use mathlib.Core.List.{List, [], ◌∷◌}
 use Prim.Native.Nat.{ℕ}
 use lib.Seq.{sets}
-use lib.Ieee.{Float}
 use Rattle.refusal.specs.One.{One}
 use Rattle.refusal.proofs.Unique.{one_answer}
 use Rattle.vector.specs.declared.Vector.{Vector}
 use Rattle.path.specs.Laid.{flat}
-use Rattle.stl.specs.Files.{size_of, faces_in, is_stl, coordinate_in, corner_in, corner_good, face_of, head_of}
+use Rattle.stl.specs.Files.{size_of, faces_in, is_stl, corner_in, corner_good, face_of, head_of}
 
 pub one-faces_in : (bs : List ℕ) → One ℕ (λ r. r ≡ faces_in bs)
 one-faces_in bs = one_answer (faces_in bs)

@@ -7,7 +7,7 @@ use lib.ListN.{length, take, drop, length-append, length-take, length-drop}
 use lib.Seq.{sets, drop-drop}
 use lib.Ieee.{Float}
 use Rattle.byte_words.specs.Bytes.{bytes_of}
-use Rattle.stl.specs.Files.{header_bytes, face_numbers, size_of, zeros, face_of, faces_of, head_of, stl_of}
+use Rattle.stl.specs.Files.{face_numbers, size_of, zeros, face_of, faces_of, head_of, stl_of}
 use Rattle.stl.proofs.Puts.{next}
 use Rattle.stl.proofs.Back.{length-zeros, length-word, length-face, count-is}
 

@@ -1,22 +1,21 @@
 -- What was written is read as the weld of the corners that were written; what was read can be written, and read again is the same mesh.
-use mathlib.Core.Path.{◌≡◌, refl, sym, ap, ◌∙◌, subst}
-use mathlib.Core.Bool.{Bool, true, false, not, ◌&&◌}
+use mathlib.Core.Path.{◌≡◌, refl, sym, ap, ◌∙◌}
+use mathlib.Core.Bool.{Bool, true, not, ◌&&◌}
 use mathlib.Core.List.{List, [], ◌∷◌}
-use Prim.Native.Nat.{ℕ, zero, suc, ◌+◌, ◌*◌, ◌/◌, ◌%◌, ◌^◌, ◌≤◌, ◌<◌}
+use Prim.Native.Nat.{ℕ, zero, suc, ◌+◌, ◌*◌, ◌/◌, ◌%◌, ◌≤◌}
 use native.Mathlib.Omega.{arith}
 use lib.ListN.{length, get_or, take, drop, replicate}
 use lib.Seq.{take-append_seam}
-use lib.Dec.{leb, eqb}
 use lib.Ieee.{Float, is_nan}
 use borrow.Author.Tests.{leb-true, le-leb, eqb-true, eq-eqb}
 use Rattle.refusal.specs.Limits.{most_faces, most_vertices}
 use Rattle.refusal.specs.Said.{accepted}
 use Rattle.refusal.specs.Refusals.{unless}
-use Rattle.refusal.specs.Outcome.{Outcome, leaves, outcome}
+use Rattle.refusal.specs.Outcome.{Outcome, leaves}
 use Rattle.refusal.specs.declared.Verdict.TheVariants.{Accepted}
 use Rattle.refusal.proofs.Unique.{same-values}
 use Rattle.refusal.proofs.Outcomes.{accept, was_accepted}
-use Rattle.single.specs.Singles.{is_single, value_of}
+use Rattle.single.specs.Singles.{is_single}
 use Rattle.single.proofs.Patterns.{value_single}
 use Rattle.byte_words.specs.Bytes.{word_from}
 use Rattle.path.specs.Strokes.{gather}

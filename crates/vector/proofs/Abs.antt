@@ -1,5 +1,5 @@
 -- What the proof of `abs` cites.
-use Rattle.std.proofs.Common.{◌≡◌, ℕ, zero, suc, ◌+◌, ◌*◌, ◌^◌, ◌<◌, Bool, true, false, not, ◌||◌, T, eqb, ℤ, pos, negsuc, sym, refl, ap, ◌∙◌, subst, zero-lt-suc, mul-pos, pow-suc, arith, eqb→eq, ltb→lt, lt→ltb, pow_pos}
+use Rattle.std.proofs.Common.{◌≡◌, ℕ, zero, suc, ◌+◌, ◌*◌, ◌^◌, ◌<◌, true, false, ◌||◌, T, eqb, ℤ, pos, negsuc, sym, refl, ap, ◌∙◌, subst, zero-lt-suc, mul-pos, pow-suc, arith, eqb→eq, ltb→lt, lt→ltb, pow_pos}
 use mathlib.Core.Bool.{beq}
 use lib.Ieee.{Float, nan, inf, fin, up, down, neg, lt, eq, binary64, fits}
 use lib.Ieee.Fits.{and_l, up_pos}

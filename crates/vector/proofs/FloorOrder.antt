@@ -1,14 +1,13 @@
 -- `floor_of` answers as `FloorOf` states, the greatest whole number not above the value, and the statement leaves one answer.
-use Rattle.std.proofs.Common.{◌≡◌, ℕ, zero, suc, ◌+◌, ◌-◌, ◌*◌, ◌/◌, ◌^◌, ◌<◌, ◌≤◌, Bool, true, false, cond, not, T, ltb, leb, ◌⊎◌, List, [], ◌∷◌, ℤ, pos, negsuc, ◌+ℤ◌, ◌*ℤ◌, neg_ℤ, ◌≤ℤ◌, ◌<ℤ◌, sym, refl, ap, ◌∙◌, subst, ⊎_elim, zero-lt-suc, lt-suc_self, suc-mul, div-lt_iff_lt-mul, add-mul, mul-pos, one-mul, zero-mul, div-mul-le_self, arith, le→leb, ltb→lt, lt→ltb, leb→le}
+use Rattle.std.proofs.Common.{◌≡◌, ℕ, zero, suc, ◌+◌, ◌-◌, ◌*◌, ◌/◌, ◌^◌, ◌<◌, ◌≤◌, Bool, true, false, T, ltb, ℤ, pos, negsuc, ◌+ℤ◌, ◌*ℤ◌, neg_ℤ, sym, refl, ap, ◌∙◌, ⊎_elim, zero-lt-suc, suc-mul, add-mul, mul-pos, one-mul, zero-mul, div-mul-le_self, arith, le→leb, ltb→lt, lt→ltb, leb→le}
 use lib.Arith.{digits_div, le→nltb}
-use lib.IntN.{sub_ℕ}
 use lib.Signed.{le_z, lt_z}
 use lib.Ieee.{Float, nan, inf, fin, up, down}
 use lib.Ieee.Bits.{is_true, is_false}
 use lib.Ieee.Fits.{down_pos}
-use Rattle.refusal.specs.Said.{Said, accepted, refused}
+use Rattle.refusal.specs.Said.{Said}
 use Rattle.refusal.specs.One.{One}
-use Rattle.vector.specs.Floor.{floor_of, whole_below, signed, Greatest, FloorOf}
+use Rattle.vector.specs.Floor.{floor_of, whole_below, Greatest, FloorOf}
 use Rattle.vector.proofs.Floors.{whole, floor_is, none_left, some_left, quot_high}
 use Rattle.vector.proofs.Roots.{lt-or_ge}
 

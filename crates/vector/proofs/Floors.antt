@@ -1,8 +1,8 @@
 -- What the proof of `floor` cites: a value whose magnitude is below 2 ^ 53, cut to a whole number, and that number as a float again.
-use Rattle.std.proofs.Common.{◌≡◌, ℕ, zero, suc, ◌+◌, ◌-◌, ◌*◌, ◌/◌, ◌^◌, ◌<◌, ◌≤◌, min, Bool, true, false, cond, not, T, ltb, List, [], ◌∷◌, ℤ, pos, negsuc, ◌-ℤ◌, neg_ℤ, nat_abs, sym, refl, ap, ◌∙◌, subst, lt_of_lt_of_le, le_of_lt, mul-le-mul_right, mul_assoc, lt-suc_self, suc-mul, mul_comm, div-lt_iff_lt-mul, add-mul, lt_of_mul-lt-mul_right, mul-lt-mul_of_pos_right, mul-pos, zero-mul, mul-one, mul_right_comm, not-le_of_lt, div-mul-le_self, arith, lit<, le→leb, ltb→lt, lt→ltb, nltb→le, T_not, w64, SFits}
+use Rattle.std.proofs.Common.{◌≡◌, ℕ, zero, suc, ◌+◌, ◌-◌, ◌*◌, ◌/◌, ◌^◌, ◌<◌, ◌≤◌, min, Bool, true, false, cond, not, T, ltb, [], ◌∷◌, ℤ, pos, negsuc, ◌-ℤ◌, neg_ℤ, nat_abs, sym, refl, ap, ◌∙◌, subst, le_of_lt, lt-suc_self, suc-mul, div-lt_iff_lt-mul, add-mul, lt_of_mul-lt-mul_right, mul-lt-mul_of_pos_right, zero-mul, mul-one, mul_right_comm, not-le_of_lt, div-mul-le_self, arith, lit<, le→leb, ltb→lt, lt→ltb, nltb→le, w64, SFits}
 use lib.Arith.{digits_div, le→nltb}
 use lib.Ieee.{eq, le, Float, nan, inf, fin, up, down, binary64, lt, below, of_int, to_signed, in_float}
-use lib.Ieee.Bits.{is_true, is_false, cond_no}
+use lib.Ieee.Bits.{is_true, is_false}
 use lib.Ieee.Exact.{HasValue}
 use lib.Ieee.Fits.{down_pos}
 use lib.Ieee.Back.{round_whole}

@@ -1,5 +1,5 @@
 -- Numbers whose patterns are three apart have roots that are apart; so of four numbers, each below the next, the first and the last have.
-use Rattle.std.proofs.Common.{◌≡◌, ℕ, zero, suc, ◌+◌, ◌-◌, ◌*◌, ◌/◌, ◌%◌, ◌^◌, ◌<◌, ◌≤◌, Bool, true, false, T, ltb, ◌⊎◌, ℤ, sym, refl, ap, ◌∙◌, subst, ⊎_elim, le_trans, le_of_eq, lt_of_le_of_lt, mul-le-mul_right, eq-zero-or-pos, mul-lt-mul_of_pos_right, mul-pos, lt_of_not-le, zero-mul, mul_right_comm, not-le_of_lt, arith, ltb→lt, lt→ltb, pow_pos, pow_mono, pow-add}
+use Rattle.std.proofs.Common.{◌≡◌, ℕ, zero, suc, ◌+◌, ◌-◌, ◌*◌, ◌/◌, ◌%◌, ◌^◌, ◌<◌, ◌≤◌, Bool, true, false, T, ltb, ℤ, sym, refl, ap, ◌∙◌, subst, ⊎_elim, le_trans, le_of_eq, lt_of_le_of_lt, mul-le-mul_right, eq-zero-or-pos, mul-lt-mul_of_pos_right, mul-pos, lt_of_not-le, zero-mul, mul_right_comm, not-le_of_lt, arith, ltb→lt, lt→ltb, pow_pos, pow_mono, pow-add}
 use lib.Ieee.{Float, nan, inf, fin, up, down, binary64, fits, to_bits, lt, eq, is_nan}
 use lib.Ieee.Bits.{is_true, of_bits-to_bits}
 use lib.Ieee.Exact.{HasValue}

@@ -1,5 +1,5 @@
 -- `root_of` answers as `RootOf` states, and the statement leaves one answer.
-use Rattle.std.proofs.Common.{◌≡◌, ℕ, zero, suc, ◌+◌, ◌-◌, ◌*◌, ◌/◌, ◌%◌, ◌^◌, ◌<◌, ◌≤◌, Bool, true, false, T, leb, ◌⊎◌, sym, refl, ap, ◌∙◌, subst, ⊎_elim, le_trans, lt_trans, le_of_eq, lt_of_lt_of_le, lt_irrefl, mul-le-mul_right, eq-zero-or-pos, mul-le-mul, eq-or-lt_of_le, mul-lt-mul_of_pos_right, lt_of_not-le, not-le_of_lt, arith, le→leb, leb→le, pow_pos, pow-add}
+use Rattle.std.proofs.Common.{◌≡◌, ℕ, zero, suc, ◌+◌, ◌-◌, ◌*◌, ◌/◌, ◌%◌, ◌^◌, ◌<◌, ◌≤◌, Bool, true, false, T, leb, sym, refl, ap, ◌∙◌, subst, ⊎_elim, le_trans, lt_trans, le_of_eq, lt_of_lt_of_le, lt_irrefl, mul-le-mul_right, eq-zero-or-pos, mul-le-mul, eq-or-lt_of_le, mul-lt-mul_of_pos_right, lt_of_not-le, not-le_of_lt, arith, le→leb, leb→le, pow_pos, pow-add}
 use lib.Ieee.{Float, nan, inf, fin, binary64, fits, of_bits, size, to_bits}
 use lib.Ieee.Bits.{of_bits-to_bits}
 use lib.Ieee.Digits.{size-lt, size-le, size_reaches}

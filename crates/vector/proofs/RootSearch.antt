@@ -1,5 +1,5 @@
 -- `root_of` finds the nearest f64, and what the branches of `sqrt` answer is what `root_of` works out.
-use Rattle.std.proofs.Common.{◌≡◌, ℕ, zero, suc, ◌+◌, ◌-◌, ◌*◌, ◌/◌, ◌%◌, ◌^◌, ◌<◌, ◌≤◌, Bool, true, false, cond, not, ◌||◌, T, eqb, ltb, ◌⊎◌, [], ◌∷◌, ℤ, sym, refl, ap, subst, ⊎_elim, le_trans, lt_trans, le_refl, lt_of_le_of_lt, le_of_lt, add-le-add, lt_irrefl, mul-le-mul_right, zero-lt-suc, mul-le-mul, eq-or-lt_of_le, mul-pos, mul-one, not-le_of_lt, add-one, arith, lit≤, eqb→eq, ltb→lt, lt→ltb, nltb→le, pow_pos}
+use Rattle.std.proofs.Common.{◌≡◌, ℕ, zero, suc, ◌+◌, ◌-◌, ◌*◌, ◌/◌, ◌%◌, ◌^◌, ◌<◌, ◌≤◌, Bool, true, false, cond, not, ◌||◌, T, eqb, [], ◌∷◌, ℤ, sym, refl, ap, subst, ⊎_elim, le_trans, lt_trans, le_refl, lt_of_le_of_lt, le_of_lt, add-le-add, lt_irrefl, mul-le-mul_right, zero-lt-suc, mul-le-mul, eq-or-lt_of_le, mul-pos, mul-one, not-le_of_lt, add-one, arith, lit≤, eqb→eq, ltb→lt, lt→ltb, nltb→le, pow_pos}
 use native.Mathlib.Decide.{le_ind}
 use lib.Ieee.{Float, nan, inf, fin, binary64, fits, of_bits, to_bits, lt, eq, up, down}
 use lib.Ieee.Fits.{and_l, up_pos}

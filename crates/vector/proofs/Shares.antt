@@ -1,5 +1,5 @@
 -- A quotient of two numbers, neither below 0 and the first not above the second, is neither below 0 nor above 1.
-use Rattle.std.proofs.Common.{◌≡◌, ℕ, zero, suc, ◌+◌, ◌*◌, ◌<◌, ◌≤◌, Bool, true, false, not, ◌||◌, T, eqb, ltb, ℤ, sym, refl, ap, subst, zero-lt-suc, mul-pos, zero-mul, arith, eqb→eq, ltb→lt, nltb→le}
+use Rattle.std.proofs.Common.{◌≡◌, ℕ, zero, suc, ◌+◌, ◌*◌, ◌<◌, ◌≤◌, Bool, true, false, not, ◌||◌, T, eqb, ℤ, refl, subst, zero-lt-suc, mul-pos, zero-mul, arith, eqb→eq, ltb→lt, nltb→le}
 use lib.Arith.{le→nltb}
 use lib.Ieee.{Float, nan, inf, fin, up, down, binary64, of_bits, round, div, lt, eq, le, below, level}
 use lib.Ieee.Bits.{is_false}

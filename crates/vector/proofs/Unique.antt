@@ -1,5 +1,5 @@
 -- What a contract permits is one answer: `one_answer` (refusal) where it is of the form `r ≡ d`; the three answers that are enums are told by what is said of them.
-use Rattle.std.proofs.Common.{◌≡◌, ℕ, List, [], ◌∷◌, sym, refl, ap, arith}
+use Rattle.std.proofs.Common.{◌≡◌, ℕ, sym, refl, ap, arith}
 use lib.Ieee.{Float}
 use Rattle.refusal.specs.One.{One}
 use Rattle.refusal.proofs.Unique.{one-refusal, never_both, same-values, one-read}

@@ -1,5 +1,5 @@
 -- The answers as the paper reads them: a number and values.
-use Rattle.std.specs.Prelude.{List, [], ◌∷◌, ℤ, Float}
+use Rattle.std.specs.Prelude.{[], ◌∷◌, ℤ, Float}
 use Rattle.refusal.specs.Said.{Said, accepted, refused}
 use Rattle.vector.specs.declared.Vector.{Vector}
 use Rattle.vector.specs.declared.Unit.{Unit}

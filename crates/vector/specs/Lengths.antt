@@ -1,5 +1,5 @@
 -- Lengths, and what is worked out with them.
-use Rattle.std.specs.Prelude.{Bool, true, false, cond, List, [], ◌∷◌, from_bits, slice_index_or, Float}
+use Rattle.std.specs.Prelude.{cond, [], ◌∷◌, from_bits, slice_index_or, Float}
 use Rattle.std.specs.Float.{nan, binary64}
 use Rattle.std.specs.Float.Ieee.{div, eq, lt}
 use Rattle.refusal.specs.Said.{Said, accepted}

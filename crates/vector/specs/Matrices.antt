@@ -1,7 +1,7 @@
 -- A position under a matrix, with perspective divide.
 use Rattle.std.specs.Prelude.{Float}
 use Rattle.std.specs.Float.{binary64}
-use Rattle.std.specs.Float.Ieee.{add, mul, div}
+use Rattle.std.specs.Float.Ieee.{add, mul}
 use Rattle.vector.specs.declared.Vector.{Vector}
 use Rattle.vector.specs.declared.matrix.Matrix.{Matrix}
 use Rattle.vector.specs.Vectors.{vec, div_scalar_of}

@@ -1,7 +1,6 @@
 -- `all_below` meets its contract: the largest decides, but of no vertices.
-use mathlib.Core.Path.{◌≡◌, sym, ap, ◌∙◌}
+use mathlib.Core.Path.{sym, ap, ◌∙◌}
 use native.Mathlib.Omega.{arith}
-use lib.ListN.{length}
 use Rattle.mesh.specs.Meshes.{all_below}
 use Rattle.mesh.proofs.Tests.{none_below}
 use Rattle.mesh.proofs.all_below.Goals as goal

@@ -1,12 +1,7 @@
 use borrow.Author.Rules.{rules}
-use mathlib.Core.Bool.{◌&&◌}
-use mathlib.Core.Path.{◌≡◌, sym, ◌∙◌}
-use Prim.Native.Nat.{ℕ, ◌-◌, ◌≤◌, ◌<◌}
+use mathlib.Core.Path.{◌∙◌}
 use native.Mathlib.Omega.{arith}
-use lib.Dec.{ltb}
-use lib.ListN.{length, drop}
 use borrow.Author.Tests.{lt-ltb}
-use Rattle.mesh.specs.Meshes.{all_below}
 use Rattle.mesh.proofs.Tests.{compared, no_more}
 use Rattle.mesh.proofs.largest.Goals as goal
 

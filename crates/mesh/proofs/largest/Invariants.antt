@@ -1,15 +1,11 @@
 -- `largest` meets its contract. All numbers are below an n that is not 0 where the largest so far and those from i on
 -- are; the numbers that are left fall.
-use borrow.Author.Rules.{rules}
 use mathlib.Core.Bool.{◌&&◌}
-use mathlib.Core.Path.{◌≡◌, sym, ◌∙◌}
+use mathlib.Core.Path.{◌≡◌}
 use Prim.Native.Nat.{ℕ, ◌-◌, ◌≤◌, ◌<◌}
-use native.Mathlib.Omega.{arith}
 use lib.Dec.{ltb}
 use lib.ListN.{length, drop}
-use borrow.Author.Tests.{lt-ltb}
 use Rattle.mesh.specs.Meshes.{all_below}
-use Rattle.mesh.proofs.Tests.{compared, no_more}
 use Rattle.mesh.proofs.largest.Given as goal
 
 abbrev pub invariant-loop-i : goal.invariant-loop-i

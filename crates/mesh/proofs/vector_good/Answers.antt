@@ -1,6 +1,5 @@
 -- `vector_good` meets its contract.
 use mathlib.Core.Path.{sym, ◌∙◌}
-use borrow.Author.Tests.{not-true, not-false}
 use Rattle.mesh.specs.Meshes.{vector_good}
 use Rattle.mesh.proofs.vector_good.Goals as goal
 

@@ -1,6 +1,5 @@
 -- `contour_verdict` meets its contract: each test is that of the definition.
 use mathlib.Core.Path.{sym, ◌∙◌}
-use borrow.Author.Tests.{not-true, not-false}
 use Rattle.refusal.specs.Refusals.{unless}
 use Rattle.mesh_contour.specs.Call.{verdict_of}
 use Rattle.mesh_contour.proofs.contour_verdict.Goals as goal

@@ -1,10 +1,7 @@
 use mathlib.Core.Path.{◌≡◌, refl, sym, ◌∙◌}
-use Prim.Native.Nat.{◌+◌, ◌-◌, ◌*◌, ◌≤◌}
+use Prim.Native.Nat.{◌-◌}
 use native.Mathlib.Omega.{arith}
-use lib.ListN.{length}
-use Rattle.path.specs.Laid.{joined}
-use Rattle.path.specs.InnerPushes.{put_points}
-use Rattle.mesh_contour_rule.specs.Contour.{corner_of, segments_from}
+use Rattle.mesh_contour_rule.specs.Contour.{corner_of}
 use Rattle.mesh_contour.proofs.Segments.{put-turn, put-end}
 use Rattle.mesh_contour.proofs.put_segments.Goals as goal
 

@@ -1,13 +1,11 @@
 -- `put_segments` meets its contract. What is still to be put from here is what was to be put at the start, and so is how many there will
 -- be; so far there is at most a segment a face; the faces that are left fall.
-use mathlib.Core.Path.{◌≡◌, refl, sym, ◌∙◌}
+use mathlib.Core.Path.{◌≡◌}
 use Prim.Native.Nat.{◌+◌, ◌-◌, ◌*◌, ◌≤◌}
-use native.Mathlib.Omega.{arith}
 use lib.ListN.{length}
 use Rattle.path.specs.Laid.{joined}
 use Rattle.path.specs.InnerPushes.{put_points}
 use Rattle.mesh_contour_rule.specs.Contour.{corner_of, segments_from}
-use Rattle.mesh_contour.proofs.Segments.{put-turn, put-end}
 use Rattle.mesh_contour.proofs.put_segments.Given as goal
 
 abbrev pub invariant-loop-f : goal.invariant-loop-f

@@ -1,5 +1,4 @@
 -- `cut_face` meets its contract: where it gives a segment the two places are all that is met.
-use borrow.Author.Tests.{not-true, not-false}
 use Rattle.mesh_contour_rule.proofs.Around.{cuts_none, cuts}
 use Rattle.mesh_contour_rule.proofs.cut_face.Goals as goal
 

@@ -1,6 +1,5 @@
 -- `draw_verdict` meets its contract.
 use mathlib.Core.Path.{sym, ◌∙◌}
-use borrow.Author.Tests.{not-true, not-false}
 use Rattle.refusal.specs.Refusals.{unless}
 use Rattle.mesh_draw.specs.Call.{verdict_of}
 use Rattle.mesh.proofs.Tests.{few_faces}

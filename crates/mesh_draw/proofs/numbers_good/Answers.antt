@@ -1,6 +1,5 @@
 -- `numbers_good` meets its contract.
 use mathlib.Core.Path.{sym, ◌∙◌}
-use borrow.Author.Tests.{not-true, not-false}
 use Rattle.mesh_draw.specs.Call.{numbers_good}
 use Rattle.mesh_draw.proofs.numbers_good.Goals as goal
 

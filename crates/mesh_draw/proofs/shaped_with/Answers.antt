@@ -1,6 +1,5 @@
 -- `shaped_with` meets its contract.
 use mathlib.Core.Path.{sym, ◌∙◌}
-use borrow.Author.Tests.{not-true, not-false}
 use Rattle.mesh_draw.proofs.shaped_with.Goals as goal
 
 pub returns-then-not-shaped : goal.returns-then-not-shaped

@@ -1,6 +1,5 @@
 -- `work_verdict` meets its contract.
 use mathlib.Core.Path.{sym, ap, ◌∙◌}
-use borrow.Author.Tests.{not-true, not-false}
 use Rattle.refusal.specs.Refusals.{unless}
 use Rattle.mesh_mode.specs.declared.Mode.{Mode}
 use Rattle.mesh_draw.specs.Call.{flat_in, work_verdict}

@@ -1,8 +1,8 @@
 use native.Mathlib.Omega.{arith}
 use mathlib.Core.Path.{◌≡◌, refl, ap, ◌∙◌}
 use mathlib.Core.List.{List}
-use Prim.Native.Nat.{ℕ, ◌+◌, ◌-◌, ◌*◌, ◌≤◌}
-use lib.ListN.{length, set, length-set}
+use Prim.Native.Nat.{ℕ, ◌+◌, ◌*◌}
+use lib.ListN.{set, length-set}
 use Rattle.mesh_edges.specs.Edges.{low_of, high_of}
 use Rattle.mesh_edges.specs.InnerSteps.{sides_to}
 use Rattle.mesh_edges.proofs.Filling.{fill_none, fill_more}

@@ -1,12 +1,8 @@
 -- `fill_sides` meets its contract. The words are those with the first k sides written; the sides that are left fall.
-use native.Mathlib.Omega.{arith}
-use mathlib.Core.Path.{◌≡◌, refl, ap, ◌∙◌}
-use mathlib.Core.List.{List}
-use Prim.Native.Nat.{ℕ, ◌+◌, ◌-◌, ◌*◌, ◌≤◌}
-use lib.ListN.{length, set, length-set}
-use Rattle.mesh_edges.specs.Edges.{low_of, high_of}
+use mathlib.Core.Path.{◌≡◌}
+use Prim.Native.Nat.{◌-◌, ◌≤◌}
+use lib.ListN.{length}
 use Rattle.mesh_edges.specs.InnerSteps.{sides_to}
-use Rattle.mesh_edges.proofs.Filling.{fill_none, fill_more}
 use Rattle.mesh_edges.proofs.fill_sides.Given as goal
 
 abbrev pub invariant-loop-k : goal.invariant-loop-k

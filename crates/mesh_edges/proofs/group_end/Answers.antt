@@ -1,9 +1,8 @@
 use native.Mathlib.Omega.{arith}
-use mathlib.Core.Path.{◌≡◌, sym, ◌∙◌, refl}
-use Prim.Native.Nat.{◌+◌, ◌-◌, ◌*◌, ◌<◌, ◌≤◌}
-use lib.ListN.{length, get_or}
-use Rattle.mesh_edges.specs.InnerWords.{pair_in}
-use Rattle.mesh_edges.proofs.Ends.{from, from_more, from-stop, from_all, end_from}
+use mathlib.Core.Path.{sym, ◌∙◌, refl}
+use Prim.Native.Nat.{◌+◌, ◌*◌}
+use lib.ListN.{get_or}
+use Rattle.mesh_edges.proofs.Ends.{from_more, from-stop, from_all, end_from}
 use Rattle.mesh_edges.proofs.group_end.Goals as goal
 
 pub loop-q-init : goal.loop-q-init

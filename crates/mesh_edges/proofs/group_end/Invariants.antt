@@ -1,11 +1,10 @@
 -- `group_end` meets its contract. The end of the group as the places from q on tell it is the end as those after p tell
 -- it; the places that are left fall.
-use native.Mathlib.Omega.{arith}
-use mathlib.Core.Path.{◌≡◌, sym, ◌∙◌, refl}
+use mathlib.Core.Path.{◌≡◌}
 use Prim.Native.Nat.{◌+◌, ◌-◌, ◌*◌, ◌<◌, ◌≤◌}
 use lib.ListN.{length, get_or}
 use Rattle.mesh_edges.specs.InnerWords.{pair_in}
-use Rattle.mesh_edges.proofs.Ends.{from, from_more, from-stop, from_all, end_from}
+use Rattle.mesh_edges.proofs.Ends.{from}
 use Rattle.mesh_edges.proofs.group_end.Given as goal
 
 abbrev pub invariant-loop-q : goal.invariant-loop-q

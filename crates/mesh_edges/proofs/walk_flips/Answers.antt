@@ -1,9 +1,5 @@
 use native.Mathlib.Omega.{arith}
-use mathlib.Core.Path.{◌≡◌, refl, ◌∙◌}
-use Prim.Native.Nat.{◌-◌, ◌*◌, ◌≤◌}
-use lib.ListN.{length, drop}
-use Rattle.order.specs.Regions.{region, Into}
-use Rattle.mesh_edges.specs.InnerSteps.{flag_all}
+use mathlib.Core.Path.{refl, ◌∙◌}
 use Rattle.mesh_edges.proofs.Flipping.{flagging, flagging_more, flagging_all}
 use Rattle.mesh_edges.proofs.walk_flips.Goals as goal
 

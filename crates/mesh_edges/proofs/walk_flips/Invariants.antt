@@ -1,12 +1,10 @@
 -- `walk_flips` meets its contract. Flagging the flips from the i-th on from here leaves the flags that flagging all
 -- leaves; the flips that are left fall.
-use native.Mathlib.Omega.{arith}
-use mathlib.Core.Path.{◌≡◌, refl, ◌∙◌}
+use mathlib.Core.Path.{◌≡◌}
 use Prim.Native.Nat.{◌-◌, ◌*◌, ◌≤◌}
 use lib.ListN.{length, drop}
 use Rattle.order.specs.Regions.{region, Into}
 use Rattle.mesh_edges.specs.InnerSteps.{flag_all}
-use Rattle.mesh_edges.proofs.Flipping.{flagging, flagging_more, flagging_all}
 use Rattle.mesh_edges.proofs.walk_flips.Given as goal
 
 abbrev pub invariant-loop-i : goal.invariant-loop-i

@@ -1,11 +1,5 @@
 use native.Mathlib.Omega.{arith}
-use mathlib.Core.Path.{◌≡◌, refl, ◌∙◌}
-use Prim.Native.Nat.{◌-◌, ◌*◌, ◌≤◌}
-use lib.ListN.{length, drop}
-use Rattle.order.specs.Regions.{region, Into}
-use Rattle.mesh_edges.specs.Edges.{groups_of}
-use Rattle.mesh_edges.specs.InnerWords.{pair_in}
-use Rattle.mesh_edges.specs.InnerSteps.{marks}
+use mathlib.Core.Path.{refl, ◌∙◌}
 use Rattle.mesh_edges.proofs.Mating.{mating, m-below, end_after, end-within, mating-more, mating-all}
 use Rattle.mesh_edges.proofs.write_mates.Goals as goal
 

@@ -1,14 +1,12 @@
 -- `write_mates` meets its contract. Marking the groups from place p on from here leaves what marking all leaves; the
 -- places that are left fall.
-use native.Mathlib.Omega.{arith}
-use mathlib.Core.Path.{◌≡◌, refl, ◌∙◌}
+use mathlib.Core.Path.{◌≡◌}
 use Prim.Native.Nat.{◌-◌, ◌*◌, ◌≤◌}
 use lib.ListN.{length, drop}
 use Rattle.order.specs.Regions.{region, Into}
 use Rattle.mesh_edges.specs.Edges.{groups_of}
 use Rattle.mesh_edges.specs.InnerWords.{pair_in}
 use Rattle.mesh_edges.specs.InnerSteps.{marks}
-use Rattle.mesh_edges.proofs.Mating.{mating, m-below, end_after, end-within, mating-more, mating-all}
 use Rattle.mesh_edges.proofs.write_mates.Given as goal
 
 abbrev pub invariant-loop-p : goal.invariant-loop-p

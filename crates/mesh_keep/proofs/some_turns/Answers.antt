@@ -1,8 +1,6 @@
-use mathlib.Core.Path.{◌≡◌, refl, sym, ◌∙◌}
-use Prim.Native.Nat.{◌-◌, ◌≤◌}
+use mathlib.Core.Path.{refl, sym, ◌∙◌}
 use native.Mathlib.Omega.{arith}
-use lib.ListN.{length, drop}
-use Rattle.mesh_keep.specs.Keep.{some_turns, faces_of, seen_in}
+use Rattle.mesh_keep.specs.Keep.{seen_in}
 use Rattle.mesh_keep.proofs.Keeps.{turns_none, turns_more, turns-found}
 use Rattle.mesh_keep.proofs.some_turns.Goals as goal
 

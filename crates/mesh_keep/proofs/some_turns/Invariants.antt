@@ -1,11 +1,9 @@
 -- `some_turns` meets its contract. Among the sides from the i-th on one turns where one of all turns; the sides that
 -- are left fall.
-use mathlib.Core.Path.{◌≡◌, refl, sym, ◌∙◌}
+use mathlib.Core.Path.{◌≡◌}
 use Prim.Native.Nat.{◌-◌, ◌≤◌}
-use native.Mathlib.Omega.{arith}
 use lib.ListN.{length, drop}
 use Rattle.mesh_keep.specs.Keep.{some_turns, faces_of, seen_in}
-use Rattle.mesh_keep.proofs.Keeps.{turns_none, turns_more, turns-found}
 use Rattle.mesh_keep.proofs.some_turns.Given as goal
 
 abbrev pub invariant-loop-i : goal.invariant-loop-i

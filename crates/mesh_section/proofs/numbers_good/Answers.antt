@@ -1,6 +1,5 @@
 -- `numbers_good` meets its contract: each test is that of the definition.
 use mathlib.Core.Path.{sym, ◌∙◌}
-use borrow.Author.Tests.{not-true, not-false}
 use Rattle.mesh_section.specs.Call.{numbers_good}
 use Rattle.mesh_section.proofs.numbers_good.Goals as goal
 

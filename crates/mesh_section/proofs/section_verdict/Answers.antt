@@ -1,6 +1,5 @@
 -- `section_verdict` meets its contract: each test is that of the definition.
 use mathlib.Core.Path.{sym, ◌∙◌}
-use borrow.Author.Tests.{not-true, not-false}
 use Rattle.refusal.specs.Refusals.{unless}
 use Rattle.mesh_section.specs.Call.{verdict_of}
 use Rattle.mesh_section.proofs.section_verdict.Goals as goal

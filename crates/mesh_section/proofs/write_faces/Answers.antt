@@ -1,12 +1,11 @@
 use mathlib.Core.Path.{◌≡◌, refl, sym, ap, ◌∙◌}
-use Prim.Native.Nat.{◌-◌, ◌*◌, ◌≤◌}
+use Prim.Native.Nat.{◌-◌}
 use native.Mathlib.Omega.{arith}
-use lib.ListN.{length}
-use Rattle.path.specs.InnerPushes.{out, push, push_all, put_points}
+use Rattle.path.specs.InnerPushes.{out, push, put_points}
 use Rattle.path.proofs.Pushes.{push-turn, push-end}
 use Rattle.mesh.specs.Meshes.{face_at}
 use Rattle.mesh_section.specs.declared.Cut.{Cut}
-use Rattle.mesh_section.specs.Section.{triangle_cut, cut_stroke, faces_cut}
+use Rattle.mesh_section.specs.Section.{triangle_cut, cut_stroke}
 use Rattle.mesh_section.proofs.Faces.{faces_more, faces_none}
 use Rattle.mesh_section.proofs.write_faces.Goals as goal
 

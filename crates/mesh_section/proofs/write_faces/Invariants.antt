@@ -1,15 +1,11 @@
 -- `write_faces` meets its contract. Pushing the strokes of the faces from f on from here leaves what pushing all
 -- leaves, and so far there are at most a stroke and two points a face; the faces that are left fall.
-use mathlib.Core.Path.{◌≡◌, refl, sym, ap, ◌∙◌}
+use mathlib.Core.Path.{◌≡◌}
 use Prim.Native.Nat.{◌-◌, ◌*◌, ◌≤◌}
-use native.Mathlib.Omega.{arith}
 use lib.ListN.{length}
-use Rattle.path.specs.InnerPushes.{out, push, push_all, put_points}
-use Rattle.path.proofs.Pushes.{push-turn, push-end}
+use Rattle.path.specs.InnerPushes.{out, push_all, put_points}
 use Rattle.mesh.specs.Meshes.{face_at}
-use Rattle.mesh_section.specs.declared.Cut.{Cut}
-use Rattle.mesh_section.specs.Section.{triangle_cut, cut_stroke, faces_cut}
-use Rattle.mesh_section.proofs.Faces.{faces_more, faces_none}
+use Rattle.mesh_section.specs.Section.{faces_cut}
 use Rattle.mesh_section.proofs.write_faces.Given as goal
 
 abbrev pub invariant-loop-f : goal.invariant-loop-f

@@ -1,11 +1,11 @@
-use mathlib.Core.Path.{◌≡◌, refl, sym, ap, ◌∙◌}
-use Prim.Native.Nat.{◌-◌, ◌≤◌}
+use mathlib.Core.Path.{◌≡◌, sym, ap, ◌∙◌}
+use Prim.Native.Nat.{◌-◌}
 use native.Mathlib.Omega.{arith}
 use Rattle.refusal.specs.declared.Verdict.TheVariants.{Accepted}
 use Rattle.mesh.specs.declared.Triangle.{Triangle}
 use Rattle.mesh.specs.Meshes.{face_at}
 use Rattle.mesh_seen.specs.Normals.{flat_of}
-use Rattle.mesh_seen.specs.Seen.{face_verdict, flat_from}
+use Rattle.mesh_seen.specs.Seen.{face_verdict}
 use Rattle.mesh_seen.proofs.Faces.{flat-more, flat-found, flat-none}
 use Rattle.mesh_seen.proofs.flat_among.Goals as goal
 

@@ -1,13 +1,8 @@
 -- `flat_among` meets its contract. The verdict on the faces from f on is that on all; the faces that are left fall.
-use mathlib.Core.Path.{◌≡◌, refl, sym, ap, ◌∙◌}
+use mathlib.Core.Path.{◌≡◌}
 use Prim.Native.Nat.{◌-◌, ◌≤◌}
-use native.Mathlib.Omega.{arith}
-use Rattle.refusal.specs.declared.Verdict.TheVariants.{Accepted}
-use Rattle.mesh.specs.declared.Triangle.{Triangle}
 use Rattle.mesh.specs.Meshes.{face_at}
-use Rattle.mesh_seen.specs.Normals.{flat_of}
-use Rattle.mesh_seen.specs.Seen.{face_verdict, flat_from}
-use Rattle.mesh_seen.proofs.Faces.{flat-more, flat-found, flat-none}
+use Rattle.mesh_seen.specs.Seen.{flat_from}
 use Rattle.mesh_seen.proofs.flat_among.Given as goal
 
 abbrev pub invariant-loop-f : goal.invariant-loop-f

@@ -1,6 +1,5 @@
 -- `flat_verdict` meets its contract.
 use mathlib.Core.Path.{sym, ap, ◌∙◌}
-use borrow.Author.Tests.{not-true, not-false}
 use Rattle.mesh_seen.specs.Seen.{flat_verdict}
 use Rattle.refusal.specs.Said.{verdict_said}
 use Rattle.mesh_seen.proofs.flat_verdict.Goals as goal

@@ -1,6 +1,5 @@
 -- `normal` meets its contract: first whether the length is 0, then which kind.
 use mathlib.Core.Path.{sym, ◌∙◌}
-use borrow.Author.Tests.{not-true, not-false}
 use Rattle.mesh_seen.specs.Normals.{normal_found}
 use Rattle.mesh_seen.proofs.normal.Goals as goal
 

@@ -1,15 +1,10 @@
 -- `see_in` meets its contract. Storing what is seen of the faces from f on from here leaves what storing all leaves;
 -- the faces that are left fall.
-use mathlib.Core.Path.{◌≡◌, refl, sym, ap, ◌∙◌}
-use mathlib.Core.List.{List}
+use mathlib.Core.Path.{◌≡◌}
 use Prim.Native.Nat.{◌-◌, ◌≤◌}
-use native.Mathlib.Omega.{arith}
 use lib.ListN.{length}
-use lib.Ieee.{Float}
-use Rattle.mesh.specs.declared.Triangle.{Triangle}
 use Rattle.mesh.specs.Meshes.{face_at}
-use Rattle.mesh_seen.specs.Seen.{put_seen, seen_from}
-use Rattle.mesh_seen.proofs.Faces.{seen_more, seen_none}
+use Rattle.mesh_seen.specs.Seen.{seen_from}
 use Rattle.mesh_seen.proofs.see_in.Given as goal
 
 abbrev pub invariant-loop-f : goal.invariant-loop-f

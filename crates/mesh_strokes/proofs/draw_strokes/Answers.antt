@@ -2,7 +2,6 @@
 use mathlib.Core.Path.{sym, ap, ◌∙◌}
 use Prim.Native.Nat.{ℕ}
 use lib.ListN.{replicate}
-use borrow.Author.Tests.{not-true, not-false}
 use Rattle.vector.specs.Lengths.{zero64}
 use Rattle.path.proofs.Tests.{both}
 use Rattle.mesh_strokes.proofs.Steps.{granted, strokes_yes, strokes_no}

@@ -1,7 +1,7 @@
 -- `fits` meets its contract.
 use mathlib.Core.Path.{sym, ◌∙◌}
 use Prim.Native.Nat.{◌/◌, ◌%◌}
-use borrow.Author.Tests.{not-true, not-false, le-leb, lt-leb, eq-eqb, ne_eqb}
+use borrow.Author.Tests.{le-leb, lt-leb, eq-eqb, ne_eqb}
 use Rattle.refusal.specs.Limits.{most_faces}
 use Rattle.mesh_strokes.specs.Call.{fits}
 use Rattle.mesh_strokes.proofs.fits.Goals as goal

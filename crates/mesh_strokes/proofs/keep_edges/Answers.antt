@@ -1,13 +1,8 @@
 use native.Mathlib.Omega.{arith}
-use mathlib.Core.Path.{◌≡◌, refl, ◌∙◌}
-use mathlib.Core.List.{List}
-use Prim.Native.Nat.{ℕ, ◌-◌, ◌*◌, ◌≤◌}
-use lib.ListN.{length, take}
-use Rattle.order.specs.Regions.{region}
-use Rattle.mesh_edges.specs.InnerWords.{side_words}
+use mathlib.Core.Path.{refl, ◌∙◌}
+use lib.ListN.{length}
 use Rattle.mesh_keep.specs.Keep.{seen_in}
-use Rattle.mesh_strokes.specs.Draw.{kept}
-use Rattle.mesh_strokes.proofs.Walks.{Went, went_none, went_all, next, turn_low, turn_high, turn_below, room_same}
+use Rattle.mesh_strokes.proofs.Walks.{went_none, went_all, next, turn_low, turn_high, turn_below, room_same}
 use Rattle.mesh_strokes.proofs.keep_edges.Goals as goal
 
 pub loop-p-init : goal.loop-p-init

@@ -1,7 +1,6 @@
 -- `keep_edges` meets its contract. The sides' words are as they were, and after them lie the m edges kept of the sides
 -- before place p (`Went`); the sides that are left fall.
-use native.Mathlib.Omega.{arith}
-use mathlib.Core.Path.{◌≡◌, refl, ◌∙◌}
+use mathlib.Core.Path.{◌≡◌}
 use mathlib.Core.List.{List}
 use Prim.Native.Nat.{ℕ, ◌-◌, ◌*◌, ◌≤◌}
 use lib.ListN.{length, take}
@@ -9,7 +8,7 @@ use Rattle.order.specs.Regions.{region}
 use Rattle.mesh_edges.specs.InnerWords.{side_words}
 use Rattle.mesh_keep.specs.Keep.{seen_in}
 use Rattle.mesh_strokes.specs.Draw.{kept}
-use Rattle.mesh_strokes.proofs.Walks.{Went, went_none, went_all, next, turn_low, turn_high, turn_below, room_same}
+use Rattle.mesh_strokes.proofs.Walks.{Went}
 use Rattle.mesh_strokes.proofs.keep_edges.Given as goal
 
 abbrev pub invariant-loop-p : goal.invariant-loop-p

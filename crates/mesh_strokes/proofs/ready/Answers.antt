@@ -1,6 +1,5 @@
 -- `ready` meets its contract.
 use mathlib.Core.Path.{sym, ◌∙◌}
-use borrow.Author.Tests.{not-true, not-false}
 use Rattle.mesh_strokes.proofs.ready.Goals as goal
 
 pub returns-then-not-fits : goal.returns-then-not-fits

@@ -1,5 +1,4 @@
 -- `ahead` meets its contract: eight numbers of at most 2 ^ 20 add up without wrapping.
-use Prim.Native.Nat.{◌+◌}
 use native.Mathlib.Omega.{arith}
 use Rattle.mesh_weld.proofs.ahead.Goals as goal
 

@@ -1,5 +1,4 @@
 -- `all_begin` meets its contract: eight calls.
-use Rattle.mesh_weld.specs.InnerTable.{way_of}
 use Rattle.mesh_weld.proofs.all_begin.Goals as goal
 
 pub begin-requires : goal.begin-requires

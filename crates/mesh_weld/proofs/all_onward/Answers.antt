@@ -1,5 +1,4 @@
 -- `all_onward` meets its contract: eight calls.
-use Rattle.mesh_weld.specs.InnerTable.{onward_of}
 use Rattle.mesh_weld.proofs.all_onward.Goals as goal
 
 pub onward-requires : goal.onward-requires

@@ -1,5 +1,5 @@
 -- `begin` meets its contract: what lies ahead is what the bucket of the cell holds.
-use mathlib.Core.Path.{◌≡◌, refl, sym, ap}
+use mathlib.Core.Path.{ap}
 use Prim.Native.Nat.{ℕ}
 use native.Mathlib.Omega.{arith}
 use lib.ListN.{get_or}

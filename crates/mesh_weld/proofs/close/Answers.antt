@@ -1,7 +1,7 @@
 -- `close` meets its contract: nothing is ahead, or a vertex that is near or is not.
 use mathlib.Core.Path.{◌≡◌, sym, ◌∙◌}
 use mathlib.Core.Bool.{true, false}
-use Prim.Native.Nat.{ℕ, ◌-◌}
+use Prim.Native.Nat.{◌-◌}
 use native.Mathlib.Omega.{arith}
 use Rattle.path.specs.Strokes.{point_at}
 use Rattle.mesh_weld.specs.Weld.{near}

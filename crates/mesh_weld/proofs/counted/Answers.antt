@@ -1,12 +1,6 @@
 -- `counted` meets its contract: a number so small fits when it is counted up, and is not negative then.
 use Rattle.mesh_weld.proofs.Cells.{read, back, plus-fits, count-lt}
-use mathlib.Core.Path.{◌≡◌, refl, sym, ap, ◌∙◌, subst}
-use mathlib.Core.List.{List, ◌++◌, [], ◌∷◌}
-use Prim.Native.Nat.{ℕ, zero-le, suc, ◌+◌, ◌*◌, ◌-◌, ◌^◌, ◌/◌, ◌%◌, ◌≤◌, ◌<◌}
 use native.Mathlib.Omega.{arith}
-use native.Mathlib.Numerals.{add-one}
-use lib.ListN.{length, get_or, set, length-set, replicate}
-use mir.Syntax.{w64}
 use Rattle.mesh_weld.proofs.Cells.{back, plus-fits, count-lt}
 use Rattle.mesh_weld.proofs.counted.Goals as goal
 

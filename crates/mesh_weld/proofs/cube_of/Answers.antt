@@ -1,5 +1,4 @@
 -- `cube_of` meets its contract: three calls.
-use mathlib.Core.Path.{◌≡◌, refl, sym, ap, ◌∙◌, subst}
 use Rattle.mesh_weld.specs.InnerTable.{cube_of}
 use Rattle.mesh_weld.proofs.cube_of.Goals as goal
 

@@ -1,7 +1,6 @@
 use mathlib.Core.Path.{refl}
-use Prim.Native.Nat.{◌+◌, ◌-◌, ◌*◌}
 use native.Mathlib.Omega.{arith}
-use Rattle.mesh_weld.proofs.Walks.{number, further, within, Seek, seek_start, seek_turn, seek_end}
+use Rattle.mesh_weld.proofs.Walks.{number, further, within, seek_start, seek_turn, seek_end}
 use Rattle.mesh_weld.proofs.end.Goals as goal
 
 pub bounds-scratch-at : goal.bounds-scratch-at

@@ -1,9 +1,7 @@
 -- `end` meets its contract. Where the way from here ends, the way from its bucket ends; each slot that it comes to lies
 -- in the table after the last, and the slots that are left fall.
-use mathlib.Core.Path.{refl}
 use Prim.Native.Nat.{◌+◌, ◌-◌, ◌*◌}
-use native.Mathlib.Omega.{arith}
-use Rattle.mesh_weld.proofs.Walks.{number, further, within, Seek, seek_start, seek_turn, seek_end}
+use Rattle.mesh_weld.proofs.Walks.{Seek}
 use Rattle.mesh_weld.proofs.end.Given as goal
 
 abbrev pub invariant-loop-next : goal.invariant-loop-next

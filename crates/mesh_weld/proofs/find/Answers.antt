@@ -1,6 +1,5 @@
 -- `find` meets its contract: the least that a vertex is worth tells its number, and the top that there is none.
-use mathlib.Core.Path.{◌≡◌, refl, sym, ap, ◌∙◌, subst}
-use Prim.Native.Nat.{ℕ, ◌+◌, ◌-◌, ◌*◌, ◌/◌, ◌%◌}
+use mathlib.Core.Path.{sym, ◌∙◌, subst}
 use native.Mathlib.Omega.{arith}
 use Rattle.mesh_weld.specs.InnerTable.{Counted}
 use Rattle.mesh_weld.proofs.Cells.{cube-counted}

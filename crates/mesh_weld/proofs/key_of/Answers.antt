@@ -1,8 +1,8 @@
 -- `key_of` meets its contract: the cell is the floor's answer, and what is counted up from it fits.
-use mathlib.Core.Path.{◌≡◌, sym, ap, ◌∙◌, subst}
-use Prim.Native.Nat.{ℕ, ◌^◌, ◌≤◌}
+use mathlib.Core.Path.{◌≡◌, sym, ap, ◌∙◌}
+use Prim.Native.Nat.{◌^◌, ◌≤◌}
 use native.Mathlib.Omega.{arith}
-use lib.IntN.{ℤ, nat_abs}
+use lib.IntN.{nat_abs}
 use Rattle.vector.specs.Answers.{whole_said}
 use Rattle.mesh_weld.specs.Weld.{cell}
 use Rattle.mesh_weld.specs.InnerTable.{key, count}

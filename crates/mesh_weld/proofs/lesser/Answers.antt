@@ -1,7 +1,5 @@
 -- `lesser` meets its contract: by its test.
-use mathlib.Core.Path.{◌≡◌}
 use borrow.Author.Tests.{lt-ltb, le-ltb}
-use native.Mathlib.Omega.{arith}
 use Rattle.mesh_weld.specs.InnerTable.{lesser_of}
 use Rattle.mesh_weld.proofs.lesser.Goals as goal
 

@@ -1,10 +1,9 @@
 use mathlib.Core.Path.{sym, ◌∙◌, subst}
 use mathlib.Core.List.{List, map}
-use Prim.Native.Nat.{ℕ, ◌+◌, ◌-◌, ◌*◌, ◌/◌, ◌<◌}
+use Prim.Native.Nat.{ℕ, ◌<◌}
 use native.Mathlib.Omega.{arith}
-use Rattle.mesh_weld.specs.declared.Cube.{Cube}
 use Rattle.mesh_weld.specs.declared.Way.{Way}
-use Rattle.mesh_weld.specs.InnerTable.{score_at, onward_of, all_ways, eight_from, top, About}
+use Rattle.mesh_weld.specs.InnerTable.{score_at, onward_of, all_ways, top, About}
 use Rattle.mesh_weld.proofs.Coarse.{in_eight}
 use Rattle.mesh_weld.proofs.Walks.{Looked, looked_start, looked_on, looked_end, walks-few, lefts, lefts-less}
 use Rattle.mesh_weld.proofs.look.Invariants.{homes}

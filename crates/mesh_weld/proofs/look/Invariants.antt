@@ -1,14 +1,10 @@
 -- `look` meets its contract. What is in one of the eight coarse cells is scored already, or ahead on the way of that
 -- cell, and the number kept is the least of what is scored; the vertices that may still come on the ways fall.
-use mathlib.Core.Path.{sym, ◌∙◌, subst}
-use mathlib.Core.List.{List, map}
-use Prim.Native.Nat.{ℕ, ◌+◌, ◌-◌, ◌*◌, ◌/◌, ◌<◌}
-use native.Mathlib.Omega.{arith}
+use mathlib.Core.List.{List}
+use Prim.Native.Nat.{◌-◌, ◌/◌}
 use Rattle.mesh_weld.specs.declared.Cube.{Cube}
-use Rattle.mesh_weld.specs.declared.Way.{Way}
-use Rattle.mesh_weld.specs.InnerTable.{score_at, onward_of, all_ways, eight_from, top, About}
-use Rattle.mesh_weld.proofs.Coarse.{in_eight}
-use Rattle.mesh_weld.proofs.Walks.{Looked, looked_start, looked_on, looked_end, walks-few, lefts, lefts-less}
+use Rattle.mesh_weld.specs.InnerTable.{score_at, all_ways, eight_from, top}
+use Rattle.mesh_weld.proofs.Walks.{Looked, lefts}
 use Rattle.mesh_weld.proofs.look.Given as goal
 
 -- the coarse cells about a cell

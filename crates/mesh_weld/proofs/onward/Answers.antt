@@ -1,9 +1,5 @@
 -- `onward` meets its contract: a way that has ended stays, and another goes on to the link that its next bit tells.
-use mathlib.Core.Path.{◌≡◌, refl, sym, ap}
-use Prim.Native.Nat.{ℕ, ◌-◌}
 use native.Mathlib.Omega.{arith}
-use lib.ListN.{get_or}
-use Rattle.mesh_weld.specs.InnerTable.{onward_of}
 use Rattle.mesh_weld.proofs.Walks.{on-ended, on-met}
 use Rattle.mesh_weld.proofs.onward.Goals as goal
 

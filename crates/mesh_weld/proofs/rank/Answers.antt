@@ -1,6 +1,6 @@
 -- `rank` meets its contract: three cells and their places, none above 100, which add up without wrapping.
-use mathlib.Core.Path.{◌≡◌, refl, sym, ap, ◌∙◌, subst}
-use Prim.Native.Nat.{ℕ, ◌+◌, ◌*◌}
+use mathlib.Core.Path.{◌≡◌, ap, ◌∙◌}
+use Prim.Native.Nat.{ℕ}
 use native.Mathlib.Omega.{arith}
 use Rattle.mesh_weld.specs.InnerTable.{rank_of, place_of, key}
 use Rattle.mesh_weld.proofs.rank.Goals as goal

@@ -1,16 +1,11 @@
 use Rattle.path.specs.Strokes.{point_at}
 use Rattle.mesh_weld.proofs.Loop.{built_all}
-use mathlib.Core.Path.{◌≡◌, refl, sym, ap, ◌∙◌, subst}
-use mathlib.Core.List.{List, ◌++◌, [], ◌∷◌}
-use Prim.Native.Nat.{ℕ, zero-le, suc, ◌+◌, ◌*◌, ◌-◌, ◌^◌, ◌/◌, ◌%◌, ◌≤◌, ◌<◌}
+use mathlib.Core.Path.{refl, ◌∙◌}
+use Prim.Native.Nat.{zero-le, ◌*◌, ◌/◌}
 use native.Mathlib.Omega.{arith}
-use native.Mathlib.Numerals.{add-one}
-use lib.ListN.{length, get_or, set, length-set, replicate}
-use lib.Ieee.{Float}
-use Rattle.mesh_weld.specs.Weld.{weld_of, weld_to}
-use Rattle.mesh_weld.specs.InnerTable.{Placed, Ready}
-use Rattle.mesh_weld.specs.InnerTable.{Laid}
-use Rattle.mesh_weld.proofs.Loop.{Built, built_none, built-more}
+use lib.ListN.{length}
+use Rattle.mesh_weld.specs.InnerTable.{Placed}
+use Rattle.mesh_weld.proofs.Loop.{built_none, built-more}
 use Rattle.mesh_weld.proofs.weld_all.Goals as goal
 
 pub overflow_mul-m : goal.overflow_mul-m

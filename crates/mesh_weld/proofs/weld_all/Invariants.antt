@@ -1,18 +1,9 @@
 -- `weld_all` meets its contract. The vertices and the numbers that the first i corners weld to are stored, and each
 -- vertex is on the way of its coarse cell (`Built`); the corners that are left fall.
-use Rattle.path.specs.Strokes.{point_at}
-use Rattle.mesh_weld.proofs.Loop.{built_all}
-use mathlib.Core.Path.{◌≡◌, refl, sym, ap, ◌∙◌, subst}
-use mathlib.Core.List.{List, ◌++◌, [], ◌∷◌}
-use Prim.Native.Nat.{ℕ, zero-le, suc, ◌+◌, ◌*◌, ◌-◌, ◌^◌, ◌/◌, ◌%◌, ◌≤◌, ◌<◌}
-use native.Mathlib.Omega.{arith}
-use native.Mathlib.Numerals.{add-one}
-use lib.ListN.{length, get_or, set, length-set, replicate}
-use lib.Ieee.{Float}
-use Rattle.mesh_weld.specs.Weld.{weld_of, weld_to}
-use Rattle.mesh_weld.specs.InnerTable.{Placed, Ready}
-use Rattle.mesh_weld.specs.InnerTable.{Laid}
-use Rattle.mesh_weld.proofs.Loop.{Built, built_none, built-more}
+use mathlib.Core.Path.{◌≡◌}
+use Prim.Native.Nat.{◌-◌, ◌≤◌}
+use lib.ListN.{length}
+use Rattle.mesh_weld.proofs.Loop.{Built}
 use Rattle.mesh_weld.proofs.weld_all.Given as goal
 
 abbrev pub invariant-loop-i : goal.invariant-loop-i

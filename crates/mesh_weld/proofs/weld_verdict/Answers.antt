@@ -1,6 +1,6 @@
 -- `weld_verdict` meets its contract: each test is that of the definition.
 use mathlib.Core.Path.{sym, ◌∙◌}
-use borrow.Author.Tests.{le-leb, lt-leb, eq-eqb, ne_eqb, not-true, not-false}
+use borrow.Author.Tests.{le-leb, lt-leb, eq-eqb, ne_eqb}
 use Rattle.refusal.specs.Refusals.{unless}
 use Rattle.mesh_weld.specs.Call.{verdict_of}
 use Rattle.mesh_weld.proofs.weld_verdict.Goals as goal

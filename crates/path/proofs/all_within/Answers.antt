@@ -2,10 +2,7 @@ use borrow.Author.Rules.{rules}
 use mathlib.Core.Bool.{Bool, true, false, ◌&&◌}
 use mathlib.Core.Path.{◌≡◌, refl, sym, ◌∙◌}
 use native.Mathlib.Omega.{arith}
-use Prim.Native.Nat.{◌-◌, ◌≤◌}
-use lib.ListN.{length, drop}
 use lib.Dec.{eqb}
-use Rattle.path.specs.Tests.{all_within}
 use Rattle.path.proofs.Tests.{good_turn, good-all}
 use Rattle.path.proofs.all_within.Goals as goal
 

@@ -1,14 +1,11 @@
 -- `all_within` meets its contract. Those before i were all good where none was counted as bad, and with those
 -- from i on they decide what all decide; the numbers that are left fall.
-use borrow.Author.Rules.{rules}
-use mathlib.Core.Bool.{Bool, true, false, ◌&&◌}
-use mathlib.Core.Path.{◌≡◌, refl, sym, ◌∙◌}
-use native.Mathlib.Omega.{arith}
+use mathlib.Core.Bool.{◌&&◌}
+use mathlib.Core.Path.{◌≡◌}
 use Prim.Native.Nat.{◌-◌, ◌≤◌}
 use lib.ListN.{length, drop}
 use lib.Dec.{eqb}
 use Rattle.path.specs.Tests.{all_within}
-use Rattle.path.proofs.Tests.{good_turn, good-all}
 use Rattle.path.proofs.all_within.Given as goal
 
 abbrev pub invariant-loop-i : goal.invariant-loop-i

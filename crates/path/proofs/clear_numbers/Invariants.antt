@@ -1,14 +1,10 @@
 -- `clear_numbers` meets its contract. The numbers below i are zero, and those from i on are as they were; the numbers that
 -- are left fall.
-use native.Mathlib.Omega.{arith}
-use mathlib.Core.Path.{◌≡◌, refl, ap, ◌∙◌}
-use mathlib.Core.List.{List, ◌++◌, append-nil}
-use Prim.Native.Nat.{ℕ, ◌+◌, ◌-◌, ◌≤◌}
-use lib.ListN.{length, length-set, replicate, drop, set}
-use lib.Seq.{drop-length}
-use lib.Ieee.{Float}
+use mathlib.Core.Path.{◌≡◌}
+use mathlib.Core.List.{◌++◌}
+use Prim.Native.Nat.{◌-◌, ◌≤◌}
+use lib.ListN.{length, replicate, drop}
 use Rattle.vector.specs.Lengths.{zero64}
-use Rattle.path.proofs.Fills.{fill_more}
 use Rattle.path.proofs.clear_numbers.Given as goal
 
 abbrev pub invariant-loop-i : goal.invariant-loop-i

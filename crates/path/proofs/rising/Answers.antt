@@ -1,9 +1,6 @@
 use borrow.Author.Rules.{rules}
 use Rattle.path.proofs.Starts.{good_none, good-first, good_start, good-end, good-fall, good-past, good_turn}
-use Rattle.path.specs.Strokes.{good_from, good_starts}
-use lib.ListN.{length, drop}
-use Prim.Native.Nat.{◌-◌, ◌≤◌}
-use mathlib.Core.Path.{◌≡◌, sym}
+use mathlib.Core.Path.{sym}
 use native.Mathlib.Omega.{arith}
 use Rattle.path.proofs.rising.Goals as goal
 

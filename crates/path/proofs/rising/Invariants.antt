@@ -1,12 +1,9 @@
 -- `rising` meets its contract. The starts from the i-th on are good after the last one passed where all are good from
 -- the first; the starts that are left fall.
-use borrow.Author.Rules.{rules}
-use Rattle.path.proofs.Starts.{good_none, good-first, good_start, good-end, good-fall, good-past, good_turn}
 use Rattle.path.specs.Strokes.{good_from, good_starts}
 use lib.ListN.{length, drop}
 use Prim.Native.Nat.{◌-◌, ◌≤◌}
-use mathlib.Core.Path.{◌≡◌, sym}
-use native.Mathlib.Omega.{arith}
+use mathlib.Core.Path.{◌≡◌}
 use Rattle.path.proofs.rising.Given as goal
 
 abbrev pub invariant-loop-i : goal.invariant-loop-i

@@ -9,7 +9,6 @@ use Rattle.path_adaptive.specs.Tally.{spent_all, verdict_by}
 use Prim.Native.Nat.{◌/◌}
 use native.Mathlib.Omega.{arith}
 use native.Mathlib.Nat.{min-le_right}
-use borrow.Author.Tests.{not-true, not-false}
 use mathlib.Core.Path.{sym, ap, ◌∙◌}
 use Rattle.path_adaptive.proofs.adaptive_verdict.Goals as goal
 

@@ -1,6 +1,5 @@
 -- `numbers_good` meets its contract.
 use Rattle.path_adaptive.specs.Call.{numbers_good}
-use borrow.Author.Tests.{not-true, not-false}
 use mathlib.Core.Path.{sym, ◌∙◌}
 use Rattle.path_adaptive.proofs.numbers_good.Goals as goal
 

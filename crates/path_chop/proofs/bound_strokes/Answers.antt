@@ -1,14 +1,13 @@
 use borrow.Author.Rules.{rules}
-use mathlib.Core.Path.{◌≡◌, ap, ◌∙◌}
+use mathlib.Core.Path.{ap, ◌∙◌}
 use mathlib.Core.List.{List}
-use native.Mathlib.Nat.{le_refl, le_trans, le_of_eq}
+use native.Mathlib.Nat.{le_trans, le_of_eq}
 use native.Mathlib.Omega.{arith}
-use Prim.Native.Nat.{zero-le, ◌+◌, ◌-◌, ◌≤◌}
-use lib.ListN.{length, drop, get_or}
+use Prim.Native.Nat.{zero-le}
+use lib.ListN.{length, get_or}
 use Rattle.vector.specs.declared.Vector.{Vector}
 use Rattle.path.specs.Strokes.{point_at}
 use Rattle.path.specs.Laid.{joined}
-use Rattle.path_chop.specs.Chop.{too_many, chopped_of}
 use Rattle.path_chop.specs.InnerCounts.{capped}
 use Rattle.path_chop.proofs.Counts.{joined-count, cap_under, cap_most}
 use Rattle.path_chop.proofs.Chops.{chopped-more, chopped-none}

@@ -7,9 +7,9 @@ use Rattle.path.specs.Strokes.{point_at, gather}
 use Rattle.path_chop.specs.Chop.{too_many, steps_of, spans}
 use Rattle.path_chop.specs.InnerCounts.{capped}
 use lib.ListN.{length}
-use Prim.Native.Nat.{ℕ, ◌+◌, ◌-◌, ◌≤◌}
+use Prim.Native.Nat.{ℕ, ◌+◌, ◌-◌}
 use native.Mathlib.Omega.{arith}
-use mathlib.Core.Path.{◌≡◌, refl, sym, ap, ◌∙◌}
+use mathlib.Core.Path.{refl, sym, ap, ◌∙◌}
 use Rattle.path_chop.proofs.count_spans.Goals as goal
 
 pub loop-j-init : goal.loop-j-init

@@ -1,17 +1,11 @@
 -- `count_spans` meets its contract. The points counted and those of the spans from place j on are those of all, but for
 -- what passes the limit; the points that are left fall.
-use borrow.Author.Rules.{rules}
-use Rattle.path_chop.proofs.Counts.{count-within, spans-count, cap_over}
-use Rattle.path_chop.proofs.Chops.{reach_is, reach_count, spans-none}
-use lib.Ieee.{Float}
-use Rattle.vector.specs.Lengths.{length_of}
 use Rattle.path.specs.Strokes.{point_at, gather}
-use Rattle.path_chop.specs.Chop.{too_many, steps_of, spans}
+use Rattle.path_chop.specs.Chop.{too_many, spans}
 use Rattle.path_chop.specs.InnerCounts.{capped}
 use lib.ListN.{length}
-use Prim.Native.Nat.{ℕ, ◌+◌, ◌-◌, ◌≤◌}
-use native.Mathlib.Omega.{arith}
-use mathlib.Core.Path.{◌≡◌, refl, sym, ap, ◌∙◌}
+use Prim.Native.Nat.{◌+◌, ◌-◌, ◌≤◌}
+use mathlib.Core.Path.{◌≡◌}
 use Rattle.path_chop.proofs.count_spans.Given as goal
 
 abbrev pub invariant-loop-j : goal.invariant-loop-j

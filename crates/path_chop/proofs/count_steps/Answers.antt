@@ -1,8 +1,7 @@
 use borrow.Author.Rules.{rules}
 use Rattle.path_chop.proofs.Chops.{steps_more, steps_stop, steps_none}
-use Rattle.path_chop.specs.Chop.{steps_of}
 use lib.ListN.{length}
-use Prim.Native.Nat.{◌+◌, ◌-◌, ◌≤◌}
+use Prim.Native.Nat.{◌-◌}
 use native.Mathlib.Omega.{arith}
 use mathlib.Core.Path.{◌≡◌, ap}
 use Rattle.path_chop.proofs.count_steps.Goals as goal

@@ -1,12 +1,9 @@
 -- `count_steps` meets its contract. The steps counted and those from the distance d on are all steps; the steps that
 -- may still be counted fall.
-use borrow.Author.Rules.{rules}
-use Rattle.path_chop.proofs.Chops.{steps_more, steps_stop, steps_none}
 use Rattle.path_chop.specs.Chop.{steps_of}
 use lib.ListN.{length}
 use Prim.Native.Nat.{◌+◌, ◌-◌, ◌≤◌}
-use native.Mathlib.Omega.{arith}
-use mathlib.Core.Path.{◌≡◌, ap}
+use mathlib.Core.Path.{◌≡◌}
 use Rattle.path_chop.proofs.count_steps.Given as goal
 
 abbrev pub invariant-loop-n : goal.invariant-loop-n

@@ -1,13 +1,12 @@
 use borrow.Author.Rules.{rules}
-use mathlib.Core.Path.{◌≡◌, sym, ap, ◌∙◌}
+use mathlib.Core.Path.{sym, ap, ◌∙◌}
 use mathlib.Core.List.{List}
 use native.Mathlib.Omega.{arith}
-use Prim.Native.Nat.{zero-le, ◌+◌, ◌-◌, ◌≤◌}
-use lib.ListN.{length, drop, get_or}
+use Prim.Native.Nat.{zero-le}
+use lib.ListN.{length, get_or}
 use Rattle.vector.specs.declared.Vector.{Vector}
 use Rattle.path.specs.Strokes.{point_at}
 use Rattle.path.specs.Laid.{joined}
-use Rattle.path_chop.specs.Chop.{too_many, chopped_of}
 use Rattle.path_chop.specs.InnerCounts.{capped}
 use Rattle.path_chop.proofs.Counts.{joined-count, capped-turn, cap_most, cap_under}
 use Rattle.path_chop.proofs.Chops.{chopped-more, chopped-none}

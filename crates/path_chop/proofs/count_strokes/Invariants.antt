@@ -1,18 +1,11 @@
 -- `count_strokes` meets its contract. The points counted and those of the strokes from the j-th on are those of all,
 -- but for what passes the limit; the strokes that are left fall.
-use borrow.Author.Rules.{rules}
-use mathlib.Core.Path.{◌≡◌, sym, ap, ◌∙◌}
-use mathlib.Core.List.{List}
-use native.Mathlib.Omega.{arith}
-use Prim.Native.Nat.{zero-le, ◌+◌, ◌-◌, ◌≤◌}
-use lib.ListN.{length, drop, get_or}
-use Rattle.vector.specs.declared.Vector.{Vector}
-use Rattle.path.specs.Strokes.{point_at}
+use mathlib.Core.Path.{◌≡◌}
+use Prim.Native.Nat.{◌+◌, ◌-◌, ◌≤◌}
+use lib.ListN.{length, drop}
 use Rattle.path.specs.Laid.{joined}
 use Rattle.path_chop.specs.Chop.{too_many, chopped_of}
 use Rattle.path_chop.specs.InnerCounts.{capped}
-use Rattle.path_chop.proofs.Counts.{joined-count, capped-turn, cap_most, cap_under}
-use Rattle.path_chop.proofs.Chops.{chopped-more, chopped-none}
 use Rattle.path_chop.proofs.count_strokes.Given as goal
 
 abbrev pub invariant-loop-j : goal.invariant-loop-j

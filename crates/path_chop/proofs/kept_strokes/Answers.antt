@@ -1,14 +1,12 @@
 use borrow.Author.Rules.{rules}
-use mathlib.Core.Path.{◌≡◌, ap}
+use mathlib.Core.Path.{ap}
 use mathlib.Core.List.{List}
 use native.Mathlib.Omega.{arith}
-use Prim.Native.Nat.{zero-le, ◌+◌, ◌-◌, ◌≤◌}
-use lib.ListN.{length, drop, get_or}
-use lib.Ieee.{Float}
+use Prim.Native.Nat.{zero-le, ◌-◌}
+use lib.ListN.{length, get_or}
 use Rattle.vector.specs.declared.Vector.{Vector}
 use Rattle.path.specs.Strokes.{point_at}
 use Rattle.path.specs.Laid.{non_empty}
-use Rattle.path_chop.specs.Chop.{chopped_of}
 use Rattle.path_chop.proofs.Counts.{kept-count, kept-most}
 use Rattle.path_chop.proofs.Chops.{chopped-more, chopped-none}
 use Rattle.path_chop.proofs.kept_strokes.Goals as goal

@@ -1,18 +1,11 @@
 -- `kept_strokes` meets its contract. Those counted and those that are not empty from the j-th on are all that are not
 -- empty; the strokes that are left fall.
-use borrow.Author.Rules.{rules}
-use mathlib.Core.Path.{◌≡◌, ap}
-use mathlib.Core.List.{List}
-use native.Mathlib.Omega.{arith}
-use Prim.Native.Nat.{zero-le, ◌+◌, ◌-◌, ◌≤◌}
-use lib.ListN.{length, drop, get_or}
+use mathlib.Core.Path.{◌≡◌}
+use Prim.Native.Nat.{◌+◌, ◌-◌, ◌≤◌}
+use lib.ListN.{length, drop}
 use lib.Ieee.{Float}
-use Rattle.vector.specs.declared.Vector.{Vector}
-use Rattle.path.specs.Strokes.{point_at}
 use Rattle.path.specs.Laid.{non_empty}
 use Rattle.path_chop.specs.Chop.{chopped_of}
-use Rattle.path_chop.proofs.Counts.{kept-count, kept-most}
-use Rattle.path_chop.proofs.Chops.{chopped-more, chopped-none}
 use Rattle.path_chop.proofs.kept_strokes.Given as goal
 
 abbrev pub invariant-loop-j : goal.invariant-loop-j

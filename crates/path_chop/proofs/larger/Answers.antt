@@ -1,5 +1,4 @@
 -- `larger` meets its contract.
-use borrow.Author.Tests.{not-true}
 use Rattle.path_chop.proofs.larger.Goals as goal
 
 pub returns-then-a-b : goal.returns-then-a-b

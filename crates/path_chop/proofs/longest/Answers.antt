@@ -1,11 +1,7 @@
 use native.Mathlib.Omega.{arith}
 use native.Mathlib.Nat.{le_refl}
-use Prim.Native.Nat.{◌+◌, ◌-◌, ◌*◌, ◌≤◌}
-use lib.ListN.{length}
-use lib.Ieee.{Float}
-use Rattle.path.specs.Strokes.{point_at, gather}
-use Rattle.path_chop.specs.Chop.{too_many, spans}
-use Rattle.path_chop.proofs.Bounds.{reach, HasRoot, larger_reaches, zero_root, longest_start, longest_turn, longest_end, squared_fits}
+use Rattle.path.specs.Strokes.{point_at}
+use Rattle.path_chop.proofs.Bounds.{larger_reaches, zero_root, longest_start, longest_turn, longest_end, squared_fits}
 use Rattle.path_chop.proofs.longest.Goals as goal
 
 pub loop-j-init : goal.loop-j-init

@@ -1,13 +1,11 @@
 -- `longest` meets its contract. The spans before j write at most what as many of the longest of them would
 -- (`longest_turn`), whatever the step; the points that are left fall.
-use native.Mathlib.Omega.{arith}
-use native.Mathlib.Nat.{le_refl}
 use Prim.Native.Nat.{◌+◌, ◌-◌, ◌*◌, ◌≤◌}
 use lib.ListN.{length}
 use lib.Ieee.{Float}
 use Rattle.path.specs.Strokes.{point_at, gather}
 use Rattle.path_chop.specs.Chop.{too_many, spans}
-use Rattle.path_chop.proofs.Bounds.{reach, HasRoot, larger_reaches, zero_root, longest_start, longest_turn, longest_end, squared_fits}
+use Rattle.path_chop.proofs.Bounds.{reach, HasRoot}
 use Rattle.path_chop.proofs.longest.Given as goal
 
 abbrev pub invariant-loop-j : goal.invariant-loop-j

@@ -2,16 +2,10 @@ use borrow.Author.Rules.{rules}
 use Rattle.path_chop.proofs.Chops.{reach_is, spans-turn, spans-end, spans-room}
 use Rattle.vector.specs.declared.Vector.{Vector}
 use Rattle.vector.specs.Vectors.{sub_of}
-use Rattle.vector.specs.Lengths.{length_of}
-use Rattle.path.specs.Strokes.{point_at, gather}
-use Rattle.path.specs.InnerPushes.{put_points, out}
-use Rattle.path.specs.Courses.{course, advanced}
-use Rattle.path_chop.specs.Chop.{too_many, spans}
-use Rattle.path_chop.specs.InnerCounts.{length_or_step}
-use lib.ListN.{length}
-use Prim.Native.Nat.{◌-◌}
+use Rattle.path.specs.Strokes.{point_at}
+use Rattle.path.specs.Courses.{course}
 use native.Mathlib.Omega.{arith}
-use mathlib.Core.Path.{◌≡◌, refl, sym, ap, ◌∙◌}
+use mathlib.Core.Path.{refl, sym, ap, ◌∙◌}
 use Rattle.path_chop.proofs.write_spans.Goals as goal
 
 pub loop-j-init : goal.loop-j-init

@@ -1,19 +1,15 @@
 -- `write_spans` meets its contract. Writing the spans from place j on from here leaves what writing all leaves, and v
 -- and l are those of the span that comes next; the points that are left fall.
-use borrow.Author.Rules.{rules}
-use Rattle.path_chop.proofs.Chops.{reach_is, spans-turn, spans-end, spans-room}
-use Rattle.vector.specs.declared.Vector.{Vector}
 use Rattle.vector.specs.Vectors.{sub_of}
 use Rattle.vector.specs.Lengths.{length_of}
 use Rattle.path.specs.Strokes.{point_at, gather}
-use Rattle.path.specs.InnerPushes.{put_points, out}
+use Rattle.path.specs.InnerPushes.{put_points}
 use Rattle.path.specs.Courses.{course, advanced}
 use Rattle.path_chop.specs.Chop.{too_many, spans}
 use Rattle.path_chop.specs.InnerCounts.{length_or_step}
 use lib.ListN.{length}
 use Prim.Native.Nat.{◌-◌}
-use native.Mathlib.Omega.{arith}
-use mathlib.Core.Path.{◌≡◌, refl, sym, ap, ◌∙◌}
+use mathlib.Core.Path.{◌≡◌}
 use Rattle.path_chop.proofs.write_spans.Given as goal
 
 abbrev pub invariant-loop-j : goal.invariant-loop-j

@@ -1,14 +1,10 @@
 use borrow.Author.Rules.{rules}
 use Rattle.vector.specs.Vectors.{add_of}
 use Rattle.path_chop.proofs.Chops.{steps_turn, steps_room, steps_halt, steps_end}
-use mathlib.Core.List.{map}
-use Rattle.path.specs.InnerPushes.{put_points, out}
-use Rattle.path.specs.Courses.{course, advanced}
+use Rattle.path.specs.Courses.{course}
 use Rattle.path_chop.specs.Chop.{too_many, along, steps_of}
-use lib.ListN.{length}
-use Prim.Native.Nat.{◌-◌, ◌≤◌}
 use native.Mathlib.Omega.{arith}
-use mathlib.Core.Path.{◌≡◌, refl, sym, ap, ◌∙◌}
+use mathlib.Core.Path.{refl, sym, ap, ◌∙◌}
 use Rattle.path_chop.proofs.write_steps.Goals as goal
 
 pub loop-n-init : goal.loop-n-init

@@ -1,16 +1,12 @@
 -- `write_steps` meets its contract. Writing the points from the distance d on from here leaves what writing all leaves;
 -- the steps that may still be made fall.
-use borrow.Author.Rules.{rules}
-use Rattle.vector.specs.Vectors.{add_of}
-use Rattle.path_chop.proofs.Chops.{steps_turn, steps_room, steps_halt, steps_end}
 use mathlib.Core.List.{map}
-use Rattle.path.specs.InnerPushes.{put_points, out}
+use Rattle.path.specs.InnerPushes.{put_points}
 use Rattle.path.specs.Courses.{course, advanced}
 use Rattle.path_chop.specs.Chop.{too_many, along, steps_of}
 use lib.ListN.{length}
 use Prim.Native.Nat.{◌-◌, ◌≤◌}
-use native.Mathlib.Omega.{arith}
-use mathlib.Core.Path.{◌≡◌, refl, sym, ap, ◌∙◌}
+use mathlib.Core.Path.{◌≡◌}
 use Rattle.path_chop.proofs.write_steps.Given as goal
 
 abbrev pub invariant-loop-n : goal.invariant-loop-n

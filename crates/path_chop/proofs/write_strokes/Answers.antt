@@ -2,11 +2,9 @@ use borrow.Author.Rules.{rules}
 use Rattle.path_chop.proofs.Chops.{chopped-more, chopped-none}
 use Rattle.path.proofs.Pushes.{push-turn, push-end, push-room, push-starts}
 use Rattle.path.specs.InnerPushes.{put_points, out, push_all}
-use Rattle.path_chop.specs.Chop.{chopped_of}
-use lib.ListN.{length, drop}
-use Prim.Native.Nat.{zero-le, ◌-◌, ◌≤◌}
+use Prim.Native.Nat.{zero-le}
 use native.Mathlib.Omega.{arith}
-use mathlib.Core.Path.{◌≡◌, refl, sym, ap, ◌∙◌}
+use mathlib.Core.Path.{refl, sym, ap, ◌∙◌}
 use Rattle.path_chop.proofs.write_strokes.Goals as goal
 
 pub loop-i-init : goal.loop-i-init

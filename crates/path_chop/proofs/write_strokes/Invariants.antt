@@ -1,14 +1,10 @@
 -- `write_strokes` meets its contract. Pushing the strokes from the i-th on from here leaves what pushing all leaves;
 -- the strokes that are left fall.
-use borrow.Author.Rules.{rules}
-use Rattle.path_chop.proofs.Chops.{chopped-more, chopped-none}
-use Rattle.path.proofs.Pushes.{push-turn, push-end, push-room, push-starts}
 use Rattle.path.specs.InnerPushes.{put_points, out, push_all}
 use Rattle.path_chop.specs.Chop.{chopped_of}
 use lib.ListN.{length, drop}
-use Prim.Native.Nat.{zero-le, ◌-◌, ◌≤◌}
-use native.Mathlib.Omega.{arith}
-use mathlib.Core.Path.{◌≡◌, refl, sym, ap, ◌∙◌}
+use Prim.Native.Nat.{◌-◌, ◌≤◌}
+use mathlib.Core.Path.{◌≡◌}
 use Rattle.path_chop.proofs.write_strokes.Given as goal
 
 abbrev pub invariant-loop-i : goal.invariant-loop-i

@@ -1,6 +1,5 @@
 -- `by_mix` meets its contract.
 use Rattle.path_classes.proofs.Orders.{mix_ordered}
-use Rattle.std.proofs.Common.{rules}
 use Rattle.path_classes.proofs.by_mix.Goals as goal
 
 pub returns : goal.returns

@@ -1,6 +1,5 @@
 use borrow.Author.Rules.{rules}
-use Rattle.std.proofs.Common.{◌-◌, ◌*◌, ◌≤◌, length, ◌∙◌, arith}
-use Rattle.path_classes.specs.InnerKeys.{word_order, Ordered}
+use Rattle.std.proofs.Common.{◌*◌, ◌≤◌, length, ◌∙◌, arith}
 use Rattle.path_classes.proofs.Words.{words_none, words_more, words_all}
 use Rattle.path_classes.proofs.by_words.Goals as goal
 

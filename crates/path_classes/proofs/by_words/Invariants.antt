@@ -1,9 +1,7 @@
 -- `by_words` meets its contract. The numbers are in the order of the first j words of their points, and no word before them
 -- or after the keys is changed; the words that are left fall.
-use borrow.Author.Rules.{rules}
-use Rattle.std.proofs.Common.{◌-◌, ◌*◌, ◌≤◌, length, ◌∙◌, arith}
+use Rattle.std.proofs.Common.{◌-◌, ◌≤◌}
 use Rattle.path_classes.specs.InnerKeys.{word_order, Ordered}
-use Rattle.path_classes.proofs.Words.{words_none, words_more, words_all}
 use Rattle.path_classes.proofs.by_words.Given as goal
 
 abbrev pub invariant-loop-j : goal.invariant-loop-j

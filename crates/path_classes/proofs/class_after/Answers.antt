@@ -1,5 +1,4 @@
 -- `class_after` meets its contract.
-use Rattle.std.proofs.Common.{rules}
 use Rattle.path_classes.proofs.class_after.Goals as goal
 
 pub returns-then-same_point : goal.returns-then-same_point

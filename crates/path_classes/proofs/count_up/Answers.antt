@@ -1,5 +1,4 @@
-use Rattle.std.proofs.Common.{◌-◌, ◌*◌, ◌≤◌, refl, arith}
-use Rattle.path_classes.specs.InnerKeys.{Aside, Stored}
+use Rattle.std.proofs.Common.{refl, arith}
 use Rattle.path_classes.proofs.Asides.{aside_none, aside_set, stored_more}
 use Rattle.path_classes.proofs.count_up.Goals as goal
 

@@ -1,8 +1,7 @@
 -- `count_up` meets its contract. The first e numbers are written, and no word before them or after their places is
 -- changed; the numbers that are left fall.
-use Rattle.std.proofs.Common.{◌-◌, ◌*◌, ◌≤◌, refl, arith}
+use Rattle.std.proofs.Common.{◌-◌, ◌*◌, ◌≤◌}
 use Rattle.path_classes.specs.InnerKeys.{Aside, Stored}
-use Rattle.path_classes.proofs.Asides.{aside_none, aside_set, stored_more}
 use Rattle.path_classes.proofs.count_up.Given as goal
 
 abbrev pub invariant-loop-e : goal.invariant-loop-e

@@ -1,5 +1,5 @@
-use Rattle.std.proofs.Common.{◌≡◌, ◌-◌, ◌≤◌, ap, ◌∙◌, subst, arith, length-set}
-use Rattle.path_classes.specs.InnerKeys.{HeldPoint, mix_of, Keys}
+use Rattle.std.proofs.Common.{◌≡◌, ap, ◌∙◌, subst, arith, length-set}
+use Rattle.path_classes.specs.InnerKeys.{HeldPoint, mix_of}
 use Rattle.path_classes.proofs.Filling.{keys_none, keys_more}
 use Rattle.path_classes.proofs.fill_keys.Goals as goal
 

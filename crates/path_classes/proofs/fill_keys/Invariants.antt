@@ -1,8 +1,7 @@
 -- `fill_keys` meets its contract. The keys of the first e points are written, and no other word but theirs is changed;
 -- the points that are left fall.
-use Rattle.std.proofs.Common.{◌≡◌, ◌-◌, ◌≤◌, ap, ◌∙◌, subst, arith, length-set}
-use Rattle.path_classes.specs.InnerKeys.{HeldPoint, mix_of, Keys}
-use Rattle.path_classes.proofs.Filling.{keys_none, keys_more}
+use Rattle.std.proofs.Common.{◌-◌, ◌≤◌}
+use Rattle.path_classes.specs.InnerKeys.{Keys}
 use Rattle.path_classes.proofs.fill_keys.Given as goal
 
 abbrev pub invariant-loop-e : goal.invariant-loop-e

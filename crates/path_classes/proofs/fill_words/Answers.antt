@@ -1,7 +1,7 @@
-use Rattle.std.proofs.Common.{◌-◌, ◌*◌, ◌≤◌, ap, ◌∙◌, arith}
+use Rattle.std.proofs.Common.{◌*◌, ap, ◌∙◌, arith}
 use Rattle.vector.specs.declared.Vector.{Vector}
 use Rattle.path.specs.Strokes.{point_at}
-use Rattle.path_classes.specs.InnerKeys.{word_of, Aside, Stored}
+use Rattle.path_classes.specs.InnerKeys.{word_of}
 use Rattle.path_classes.proofs.Asides.{aside_none, aside_set, stored_more}
 use Rattle.path_classes.proofs.fill_words.Goals as goal
 

@@ -1,10 +1,8 @@
 -- `fill_words` meets its contract. The words of the first e points are written, and no other word but theirs is changed;
 -- the points that are left fall.
-use Rattle.std.proofs.Common.{◌-◌, ◌*◌, ◌≤◌, ap, ◌∙◌, arith}
-use Rattle.vector.specs.declared.Vector.{Vector}
+use Rattle.std.proofs.Common.{◌-◌, ◌*◌, ◌≤◌}
 use Rattle.path.specs.Strokes.{point_at}
 use Rattle.path_classes.specs.InnerKeys.{word_of, Aside, Stored}
-use Rattle.path_classes.proofs.Asides.{aside_none, aside_set, stored_more}
 use Rattle.path_classes.proofs.fill_words.Given as goal
 
 abbrev pub invariant-loop-e : goal.invariant-loop-e

@@ -1,5 +1,5 @@
-use Rattle.std.proofs.Common.{◌+◌, ◌-◌, refl, arith}
-use Rattle.path_classes.proofs.Labels.{Labelled, labelled_none, labelled-more, labelled_all, next-is}
+use Rattle.std.proofs.Common.{◌+◌, refl, arith}
+use Rattle.path_classes.proofs.Labels.{labelled_none, labelled-more, labelled_all, next-is}
 use Rattle.path_classes.proofs.label.Goals as goal
 
 pub loop-x-init : goal.loop-x-init

@@ -1,7 +1,7 @@
 -- `label` meets its contract. The first x points in the order have their class, and c is that of the last of them; the points
 -- that are left fall.
-use Rattle.std.proofs.Common.{◌+◌, ◌-◌, refl, arith}
-use Rattle.path_classes.proofs.Labels.{Labelled, labelled_none, labelled-more, labelled_all, next-is}
+use Rattle.std.proofs.Common.{◌-◌}
+use Rattle.path_classes.proofs.Labels.{Labelled}
 use Rattle.path_classes.proofs.label.Given as goal
 
 abbrev pub invariant-loop-x : goal.invariant-loop-x

@@ -1,7 +1,6 @@
 -- `line_up` meets its contract.
 use Rattle.path_classes.proofs.Asides.{aside_then}
 use Rattle.path_classes.proofs.Lines.{mix_together, words_together}
-use Rattle.std.proofs.Common.{rules}
 use Rattle.path_classes.proofs.line_up.Goals as goal
 
 pub returns-then-mixed_up : goal.returns-then-mixed_up

@@ -1,5 +1,4 @@
-use Rattle.std.proofs.Common.{◌+◌, ◌-◌, ◌≤◌, T, subst, arith}
-use Rattle.path_classes.specs.InnerKeys.{Apart}
+use Rattle.std.proofs.Common.{◌+◌, ◌-◌, T, subst, arith}
 use Rattle.path_classes.proofs.Filling.{apart_more}
 use Rattle.path_classes.proofs.mixed_up.Goals as goal
 

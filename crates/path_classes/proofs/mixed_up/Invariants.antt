@@ -1,8 +1,7 @@
 -- `mixed_up` meets its contract. Of the first x points in the order no neighbours have one mix and are not the same; the
 -- points that are left fall.
-use Rattle.std.proofs.Common.{◌+◌, ◌-◌, ◌≤◌, T, subst, arith}
+use Rattle.std.proofs.Common.{◌-◌, ◌≤◌}
 use Rattle.path_classes.specs.InnerKeys.{Apart}
-use Rattle.path_classes.proofs.Filling.{apart_more}
 use Rattle.path_classes.proofs.mixed_up.Given as goal
 
 abbrev pub invariant-loop-x : goal.invariant-loop-x

@@ -1,6 +1,5 @@
 -- `same_number` meets its contract.
 use Rattle.path_classes.proofs.Same.{by_pattern}
-use Rattle.std.proofs.Common.{rules}
 use Rattle.path_classes.proofs.same_number.Goals as goal
 
 pub returns : goal.returns

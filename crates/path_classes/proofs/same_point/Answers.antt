@@ -1,6 +1,5 @@
 -- `same_point` meets its contract.
 use Rattle.std.proofs.Common.{sym, ◌∙◌}
-use borrow.Author.Tests.{not-true, not-false}
 use Rattle.path_classes.specs.Classes.{same_point}
 use Rattle.path_classes.proofs.same_point.Goals as goal
 

@@ -1,6 +1,6 @@
 -- `first_at` meets its contract.
 use mathlib.Core.Path.{ap, ◌∙◌}
-use Prim.Native.Nat.{ℕ, ◌+◌}
+use Prim.Native.Nat.{ℕ}
 use lib.ListN.{length, get_or}
 use Rattle.path_reader.specs.Reading.{least}
 use Rattle.path_reader.proofs.first_at.Goals as goal

@@ -1,8 +1,7 @@
-use mathlib.Core.Path.{◌≡◌, refl, sym, ◌∙◌}
-use Prim.Native.Nat.{◌+◌, ◌-◌, ◌*◌, ◌≤◌}
+use mathlib.Core.Path.{refl, sym, ◌∙◌}
+use Prim.Native.Nat.{◌*◌}
 use native.Mathlib.Omega.{arith}
-use lib.ListN.{length, replicate, length-set}
-use Rattle.order.specs.Regions.{put}
+use lib.ListN.{length-set}
 use Rattle.path_segments.proofs.Joins.{fill_none, fill_turn, fill_end}
 use Rattle.path_segments.proofs.fill_todo.Goals as goal
 

@@ -1,11 +1,9 @@
 -- `fill_todo` meets its contract. Filling in the words from the i-th on leaves what filling in all leaves; the words that
 -- are left fall.
-use mathlib.Core.Path.{◌≡◌, refl, sym, ◌∙◌}
+use mathlib.Core.Path.{◌≡◌}
 use Prim.Native.Nat.{◌+◌, ◌-◌, ◌*◌, ◌≤◌}
-use native.Mathlib.Omega.{arith}
-use lib.ListN.{length, replicate, length-set}
+use lib.ListN.{length, replicate}
 use Rattle.order.specs.Regions.{put}
-use Rattle.path_segments.proofs.Joins.{fill_none, fill_turn, fill_end}
 use Rattle.path_segments.proofs.fill_todo.Given as goal
 
 abbrev pub invariant-loop-i : goal.invariant-loop-i

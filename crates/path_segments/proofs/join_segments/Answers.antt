@@ -3,7 +3,6 @@ use mathlib.Core.Path.{sym, ◌∙◌}
 use Prim.Native.Nat.{◌*◌}
 use native.Mathlib.Omega.{arith}
 use lib.Seq.{length-take-le}
-use borrow.Author.Tests.{not-true, not-false}
 use Rattle.path_splice.proofs.Pairs.{zeroed}
 use Rattle.path_segments.proofs.Joins.{join-fits, join-no, join-yes}
 use Rattle.path_segments.proofs.join_segments.Goals as goal

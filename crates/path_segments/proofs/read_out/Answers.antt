@@ -1,11 +1,8 @@
 use borrow.Author.Rules.{rules}
 use native.Mathlib.Omega.{arith}
-use mathlib.Core.Path.{◌≡◌, refl}
-use Prim.Native.Nat.{◌-◌, ◌≤◌}
-use lib.ListN.{length}
-use Rattle.path.specs.InnerPushes.{put_points}
+use mathlib.Core.Path.{refl}
 use Rattle.path.proofs.Points.{points_lie}
-use Rattle.path_splice.proofs.Readings.{Reading, reading, point-room, mark-room, reading-more, read_all}
+use Rattle.path_splice.proofs.Readings.{reading, point-room, mark-room, reading-more, read_all}
 use Rattle.path_segments.specs.Join.{segments_in}
 use Rattle.path_segments.proofs.read_out.Goals as goal
 

@@ -1,13 +1,10 @@
 -- `read_out` meets its contract. Reading the ends from the j-th on from here leaves what reading all leaves, points and
 -- starts (`Reading`); the ends that are left fall.
-use borrow.Author.Rules.{rules}
-use native.Mathlib.Omega.{arith}
-use mathlib.Core.Path.{◌≡◌, refl}
+use mathlib.Core.Path.{◌≡◌}
 use Prim.Native.Nat.{◌-◌, ◌≤◌}
 use lib.ListN.{length}
 use Rattle.path.specs.InnerPushes.{put_points}
-use Rattle.path.proofs.Points.{points_lie}
-use Rattle.path_splice.proofs.Readings.{Reading, reading, point-room, mark-room, reading-more, read_all}
+use Rattle.path_splice.proofs.Readings.{Reading}
 use Rattle.path_segments.specs.Join.{segments_in}
 use Rattle.path_segments.proofs.read_out.Given as goal
 

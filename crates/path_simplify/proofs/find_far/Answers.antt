@@ -1,14 +1,13 @@
 use borrow.Author.Rules.{rules}
 use Rattle.path_simplify.proofs.Thins.{far_turn, far_end}
-use Rattle.vector.specs.Lengths.{zero64, segment_distance_of}
+use Rattle.vector.specs.Lengths.{segment_distance_of}
 use Rattle.vector.specs.declared.Vector.{Vector}
 use Rattle.path_simplify.proofs.Squares.{start_far, start_rising}
-use Rattle.path_simplify.specs.InnerSquares.{far_of, settled_of, Rising}
+use Rattle.path_simplify.specs.InnerSquares.{far_of, settled_of}
 use Rattle.path.specs.Strokes.{point_at}
-use Rattle.path_simplify.specs.Simplify.{far_from, farthest}
-use Prim.Native.Nat.{◌+◌, ◌-◌, ◌≤◌}
+use Rattle.path_simplify.specs.Simplify.{farthest}
 use native.Mathlib.Omega.{arith}
-use mathlib.Core.Path.{◌≡◌, sym, ap, ◌∙◌}
+use mathlib.Core.Path.{sym, ap, ◌∙◌}
 use Rattle.path_simplify.proofs.find_far.Goals as goal
 
 pub overflow_add-i : goal.overflow_add-i

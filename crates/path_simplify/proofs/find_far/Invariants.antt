@@ -1,16 +1,11 @@
 -- `find_far` meets its contract. The records so far (`Rising`) tell the farthest point before i, and with the points
 -- from i on they give what all give; the points that are left fall.
-use borrow.Author.Rules.{rules}
-use Rattle.path_simplify.proofs.Thins.{far_turn, far_end}
-use Rattle.vector.specs.Lengths.{zero64, segment_distance_of}
-use Rattle.vector.specs.declared.Vector.{Vector}
-use Rattle.path_simplify.proofs.Squares.{start_far, start_rising}
+use Rattle.vector.specs.Lengths.{zero64}
 use Rattle.path_simplify.specs.InnerSquares.{far_of, settled_of, Rising}
 use Rattle.path.specs.Strokes.{point_at}
-use Rattle.path_simplify.specs.Simplify.{far_from, farthest}
+use Rattle.path_simplify.specs.Simplify.{far_from}
 use Prim.Native.Nat.{◌+◌, ◌-◌, ◌≤◌}
-use native.Mathlib.Omega.{arith}
-use mathlib.Core.Path.{◌≡◌, sym, ap, ◌∙◌}
+use mathlib.Core.Path.{◌≡◌}
 use Rattle.path_simplify.proofs.find_far.Given as goal
 
 abbrev pub invariant-loop-i : goal.invariant-loop-i

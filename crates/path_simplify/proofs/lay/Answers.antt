@@ -1,11 +1,7 @@
-use mathlib.Core.Path.{◌≡◌, refl, sym, ◌∙◌}
-use mathlib.Core.List.{map}
-use Prim.Native.Nat.{◌+◌, ◌-◌, ◌≤◌}
+use mathlib.Core.Path.{refl, sym, ◌∙◌}
 use native.Mathlib.Omega.{arith}
 use native.Mathlib.Nat.{add-zero}
-use lib.ListN.{length, take, drop}
 use Rattle.path.specs.Strokes.{point_at}
-use Rattle.path.specs.InnerPushes.{put_points}
 use Rattle.path_simplify.specs.InnerNotes.{count_noted, thin_at}
 use Rattle.path_simplify.proofs.Notes.{lay_turn, lay_end}
 use Rattle.path_simplify.proofs.lay.Goals as goal

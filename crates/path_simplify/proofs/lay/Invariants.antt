@@ -1,15 +1,11 @@
 -- `lay` meets its contract. Putting the points of the places from the i-th on from here leaves what putting all leaves;
 -- the places that are left fall.
-use mathlib.Core.Path.{◌≡◌, refl, sym, ◌∙◌}
+use mathlib.Core.Path.{◌≡◌}
 use mathlib.Core.List.{map}
 use Prim.Native.Nat.{◌+◌, ◌-◌, ◌≤◌}
-use native.Mathlib.Omega.{arith}
-use native.Mathlib.Nat.{add-zero}
 use lib.ListN.{length, take, drop}
 use Rattle.path.specs.Strokes.{point_at}
 use Rattle.path.specs.InnerPushes.{put_points}
-use Rattle.path_simplify.specs.InnerNotes.{count_noted, thin_at}
-use Rattle.path_simplify.proofs.Notes.{lay_turn, lay_end}
 use Rattle.path_simplify.proofs.lay.Given as goal
 
 abbrev pub invariant-loop-i : goal.invariant-loop-i

@@ -1,11 +1,7 @@
 use borrow.Author.Rules.{rules}
 use Rattle.path_simplify.proofs.Totals.{short_more, short_none}
-use Rattle.path_simplify.specs.Call.{short_of}
-use lib.ListN.{length, drop}
-use Prim.Native.Nat.{◌-◌, ◌≤◌}
 use native.Mathlib.Omega.{arith}
-use borrow.Author.Tests.{not-true, not-false}
-use mathlib.Core.Path.{◌≡◌, refl, sym, ◌∙◌}
+use mathlib.Core.Path.{refl, sym, ◌∙◌}
 use Rattle.path_simplify.proofs.short_strokes.Goals as goal
 
 pub loop-j-init : goal.loop-j-init

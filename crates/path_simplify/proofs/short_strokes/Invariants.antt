@@ -1,13 +1,9 @@
 -- `short_strokes` meets its contract. The strokes from the j-th on are short where all are; the strokes that are left
 -- fall.
-use borrow.Author.Rules.{rules}
-use Rattle.path_simplify.proofs.Totals.{short_more, short_none}
 use Rattle.path_simplify.specs.Call.{short_of}
 use lib.ListN.{length, drop}
 use Prim.Native.Nat.{◌-◌, ◌≤◌}
-use native.Mathlib.Omega.{arith}
-use borrow.Author.Tests.{not-true, not-false}
-use mathlib.Core.Path.{◌≡◌, refl, sym, ◌∙◌}
+use mathlib.Core.Path.{◌≡◌}
 use Rattle.path_simplify.proofs.short_strokes.Given as goal
 
 abbrev pub invariant-loop-j : goal.invariant-loop-j

@@ -1,7 +1,6 @@
 -- `simplify_verdict` meets its contract.
 use Rattle.refusal.specs.Refusals.{unless}
 use Rattle.path_simplify.specs.Call.{verdict_of}
-use borrow.Author.Tests.{not-true, not-false}
 use mathlib.Core.Path.{sym, ◌∙◌}
 use Rattle.path_simplify.proofs.simplify_verdict.Goals as goal
 

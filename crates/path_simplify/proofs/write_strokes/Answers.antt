@@ -1,17 +1,16 @@
 use borrow.Author.Rules.{rules}
-use Rattle.path_simplify.specs.InnerNotes.{notes_long}
 use Rattle.path_simplify.proofs.Totals.{thins_more, thins_none, more-points, more-distances, ends_in, short_in}
 use Rattle.path.proofs.Pushes.{push-turn, push-end, push-room, push-starts}
 use Rattle.path.specs.Strokes.{point_at}
 use Rattle.path.specs.InnerPushes.{put_points, out, push_all}
-use Rattle.path_simplify.specs.Simplify.{simplified, distances, simplified_of}
+use Rattle.path_simplify.specs.Simplify.{simplified, distances}
 use Rattle.path_simplify.specs.InnerSquares.{places_in}
 use Prim.Native.Nat.{ℕ, ◌/◌}
-use lib.ListN.{length, drop, get_or, length-replicate}
+use lib.ListN.{length, get_or, length-replicate}
 use Rattle.refusal.specs.Limits.{most_to_simplify}
-use Prim.Native.Nat.{zero-le, ◌+◌, ◌-◌, ◌≤◌}
+use Prim.Native.Nat.{zero-le, ◌-◌, ◌≤◌}
 use native.Mathlib.Omega.{arith}
-use mathlib.Core.Path.{◌≡◌, refl, sym, ap, ◌∙◌, subst}
+use mathlib.Core.Path.{refl, sym, ap, ◌∙◌, subst}
 use Rattle.path_simplify.proofs.write_strokes.Goals as goal
 
 pub loop-i-init : goal.loop-i-init

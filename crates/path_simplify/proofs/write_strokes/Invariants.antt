@@ -1,19 +1,12 @@
 -- `write_strokes` meets its contract. Pushing the strokes from the i-th on from here leaves what pushing all leaves,
 -- and their distances and those measured are all; the strokes that are left fall.
-use borrow.Author.Rules.{rules}
 use Rattle.path_simplify.specs.InnerNotes.{notes_long}
-use Rattle.path_simplify.proofs.Totals.{thins_more, thins_none, more-points, more-distances, ends_in, short_in}
-use Rattle.path.proofs.Pushes.{push-turn, push-end, push-room, push-starts}
-use Rattle.path.specs.Strokes.{point_at}
 use Rattle.path.specs.InnerPushes.{put_points, out, push_all}
 use Rattle.path_simplify.specs.Simplify.{simplified, distances, simplified_of}
 use Rattle.path_simplify.specs.InnerSquares.{places_in}
-use Prim.Native.Nat.{ℕ, ◌/◌}
-use lib.ListN.{length, drop, get_or, length-replicate}
-use Rattle.refusal.specs.Limits.{most_to_simplify}
-use Prim.Native.Nat.{zero-le, ◌+◌, ◌-◌, ◌≤◌}
-use native.Mathlib.Omega.{arith}
-use mathlib.Core.Path.{◌≡◌, refl, sym, ap, ◌∙◌, subst}
+use lib.ListN.{length, drop}
+use Prim.Native.Nat.{◌+◌, ◌-◌, ◌≤◌}
+use mathlib.Core.Path.{◌≡◌}
 use Rattle.path_simplify.proofs.write_strokes.Given as goal
 
 abbrev pub invariant-loop-i : goal.invariant-loop-i

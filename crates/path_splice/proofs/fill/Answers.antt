@@ -1,7 +1,7 @@
 -- `fill` meets its contract.
 use native.Mathlib.Omega.{arith}
 use mathlib.Core.Path.{sym}
-use Prim.Native.Nat.{◌-◌, ◌*◌}
+use Prim.Native.Nat.{◌*◌}
 use lib.ListN.{length}
 use lib.Seq.{length-take-le}
 use Rattle.path.proofs.Again.{strokes_count}

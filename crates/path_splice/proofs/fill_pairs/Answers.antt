@@ -1,7 +1,7 @@
 use mathlib.Core.Path.{◌≡◌, refl, subst}
-use Prim.Native.Nat.{ℕ, ◌-◌, ◌*◌, ◌≤◌}
+use Prim.Native.Nat.{ℕ, ◌*◌}
 use native.Mathlib.Omega.{arith}
-use lib.ListN.{length, length-set}
+use lib.ListN.{length-set}
 use Rattle.order.specs.Regions.{Into2}
 use Rattle.path_splice.specs.InnerPairs.{Paired}
 use Rattle.path_splice.proofs.Pairs.{pairing, pairing_more}

@@ -1,12 +1,10 @@
 -- `fill_pairs` meets its contract. The strokes below i are there and begin where their pair lies, and no other word is
 -- changed; the strokes that are left fall.
-use mathlib.Core.Path.{◌≡◌, refl, subst}
-use Prim.Native.Nat.{ℕ, ◌-◌, ◌*◌, ◌≤◌}
-use native.Mathlib.Omega.{arith}
-use lib.ListN.{length, length-set}
+use mathlib.Core.Path.{◌≡◌}
+use Prim.Native.Nat.{◌-◌, ◌*◌, ◌≤◌}
+use lib.ListN.{length}
 use Rattle.order.specs.Regions.{Into2}
 use Rattle.path_splice.specs.InnerPairs.{Paired}
-use Rattle.path_splice.proofs.Pairs.{pairing, pairing_more}
 use Rattle.path_splice.proofs.fill_pairs.Given as goal
 
 abbrev pub invariant-loop-i : goal.invariant-loop-i

@@ -1,7 +1,7 @@
 use native.Mathlib.Omega.{arith}
-use mathlib.Core.Path.{◌≡◌, refl}
-use Prim.Native.Nat.{ℕ, ◌-◌, ◌<◌, ◌≤◌}
-use lib.ListN.{get_or, length, length-set}
+use mathlib.Core.Path.{refl}
+use Prim.Native.Nat.{ℕ}
+use lib.ListN.{get_or, length-set}
 use mathlib.Core.List.{[]}
 use Rattle.path.specs.Strokes.{strokes_in}
 use Rattle.path_splice_rule.specs.Splice.{present}

@@ -1,13 +1,11 @@
 -- `fill_todo` meets its contract. The words below i say whether their strokes have points; the words that are left
 -- fall.
-use native.Mathlib.Omega.{arith}
-use mathlib.Core.Path.{◌≡◌, refl}
+use mathlib.Core.Path.{◌≡◌}
 use Prim.Native.Nat.{ℕ, ◌-◌, ◌<◌, ◌≤◌}
-use lib.ListN.{get_or, length, length-set}
+use lib.ListN.{get_or, length}
 use mathlib.Core.List.{[]}
 use Rattle.path.specs.Strokes.{strokes_in}
 use Rattle.path_splice_rule.specs.Splice.{present}
-use Rattle.path_splice.proofs.Tables.{fill_turn}
 use Rattle.path_splice.proofs.fill_todo.Given as goal
 
 abbrev pub invariant-loop-i : goal.invariant-loop-i

@@ -1,7 +1,6 @@
 use native.Mathlib.Omega.{arith}
-use mathlib.Core.Path.{◌≡◌, refl}
-use Prim.Native.Nat.{ℕ, ◌-◌, ◌<◌, ◌≤◌}
-use lib.ListN.{get_or, length, length-set}
+use mathlib.Core.Path.{refl}
+use lib.ListN.{length-set}
 use Rattle.path.specs.Strokes.{strokes_in}
 use Rattle.path_splice_rule.specs.Splice.{value_at}
 use Rattle.path_splice.proofs.Tables.{fill_turn}

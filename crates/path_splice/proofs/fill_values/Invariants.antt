@@ -1,11 +1,9 @@
 -- `fill_values` meets its contract. The words below e have the values of their ends; the words that are left fall.
-use native.Mathlib.Omega.{arith}
-use mathlib.Core.Path.{◌≡◌, refl}
+use mathlib.Core.Path.{◌≡◌}
 use Prim.Native.Nat.{ℕ, ◌-◌, ◌<◌, ◌≤◌}
-use lib.ListN.{get_or, length, length-set}
+use lib.ListN.{get_or, length}
 use Rattle.path.specs.Strokes.{strokes_in}
 use Rattle.path_splice_rule.specs.Splice.{value_at}
-use Rattle.path_splice.proofs.Tables.{fill_turn}
 use Rattle.path_splice.proofs.fill_values.Given as goal
 
 abbrev pub invariant-loop-e : goal.invariant-loop-e

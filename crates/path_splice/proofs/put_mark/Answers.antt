@@ -1,7 +1,6 @@
 -- `put_mark` meets its contract.
 use native.Mathlib.Omega.{arith}
 use mathlib.Core.Path.{ap}
-use Prim.Native.Nat.{◌-◌}
 use lib.ListN.{length}
 use Rattle.path_splice.proofs.Readings.{mark_none, mark_one, put-none, put-single}
 use Rattle.path_splice.proofs.put_mark.Goals as goal

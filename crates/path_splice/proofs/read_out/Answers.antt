@@ -1,11 +1,8 @@
 use borrow.Author.Rules.{rules}
 use native.Mathlib.Omega.{arith}
-use mathlib.Core.Path.{◌≡◌, refl}
-use Prim.Native.Nat.{◌-◌, ◌≤◌}
-use lib.ListN.{length}
-use Rattle.order.specs.Regions.{put}
+use mathlib.Core.Path.{refl}
 use Rattle.path.specs.Strokes.{strokes_in}
-use Rattle.path_splice.proofs.Readings.{words_lie, Reading, reading, point-room, mark-room, reading-more, read_all}
+use Rattle.path_splice.proofs.Readings.{words_lie, reading, point-room, mark-room, reading-more, read_all}
 use Rattle.path_splice.proofs.read_out.Goals as goal
 
 pub loop-j-init : goal.loop-j-init

@@ -1,13 +1,11 @@
 -- `read_out` meets its contract. Reading the ends from the j-th on from here leaves what reading all leaves, points and
 -- starts (`Reading`); the ends that are left fall.
-use borrow.Author.Rules.{rules}
-use native.Mathlib.Omega.{arith}
-use mathlib.Core.Path.{◌≡◌, refl}
+use mathlib.Core.Path.{◌≡◌}
 use Prim.Native.Nat.{◌-◌, ◌≤◌}
 use lib.ListN.{length}
 use Rattle.order.specs.Regions.{put}
 use Rattle.path.specs.Strokes.{strokes_in}
-use Rattle.path_splice.proofs.Readings.{words_lie, Reading, reading, point-room, mark-room, reading-more, read_all}
+use Rattle.path_splice.proofs.Readings.{Reading}
 use Rattle.path_splice.proofs.read_out.Given as goal
 
 abbrev pub invariant-loop-j : goal.invariant-loop-j

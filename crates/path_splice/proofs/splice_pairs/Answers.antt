@@ -3,7 +3,6 @@ use mathlib.Core.Path.{sym, ◌∙◌}
 use Prim.Native.Nat.{◌*◌}
 use native.Mathlib.Omega.{arith}
 use lib.Seq.{length-take-le}
-use borrow.Author.Tests.{not-true, not-false}
 use Rattle.path_splice.proofs.Pairs.{pairs_fit_lem, pairs_no, pairs_yes, zeroed}
 use Rattle.path_splice.proofs.splice_pairs.Goals as goal
 

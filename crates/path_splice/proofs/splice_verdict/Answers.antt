@@ -1,7 +1,7 @@
 -- `splice_verdict` meets its contract.
 use mathlib.Core.Path.{sym, ◌∙◌}
 use native.Mathlib.Omega.{arith}
-use borrow.Author.Tests.{le-leb, lt-leb, not-true, not-false}
+use borrow.Author.Tests.{le-leb, lt-leb}
 use Rattle.refusal.specs.Refusals.{unless}
 use Rattle.path_splice.specs.Call.{verdict_of}
 use Rattle.path_splice.proofs.Answers.{within-limits}

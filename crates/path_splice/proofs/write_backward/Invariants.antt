@@ -1,12 +1,10 @@
 -- `write_backward` meets its contract. Putting the points before i, the last first, from here leaves what putting all
 -- leaves; i falls.
-use native.Mathlib.Omega.{arith}
-use mathlib.Core.Path.{◌≡◌, refl, sym, ◌∙◌}
+use mathlib.Core.Path.{◌≡◌}
 use Prim.Native.Nat.{◌+◌, ◌-◌, ◌≤◌}
-use lib.ListN.{length, length-set}
+use lib.ListN.{length}
 use Rattle.order.specs.Regions.{region, put}
 use mathlib.Core.List.{reverse}
-use Rattle.path_splice.proofs.Tables.{backward_turn, backward_end}
 use Rattle.path_splice.proofs.write_backward.Given as goal
 
 abbrev pub invariant-loop-i : goal.invariant-loop-i

@@ -1,11 +1,9 @@
 -- `write_forward` meets its contract. Putting the points from i on from here leaves what putting all leaves; the points
 -- that are left fall.
-use native.Mathlib.Omega.{arith}
-use mathlib.Core.Path.{◌≡◌, refl, sym, ◌∙◌}
+use mathlib.Core.Path.{◌≡◌}
 use Prim.Native.Nat.{◌+◌, ◌-◌, ◌≤◌}
-use lib.ListN.{length, length-set}
+use lib.ListN.{length}
 use Rattle.order.specs.Regions.{region, put}
-use Rattle.path_splice.proofs.Tables.{forward_turn, forward_end}
 use Rattle.path_splice.proofs.write_forward.Given as goal
 
 abbrev pub invariant-loop-i : goal.invariant-loop-i

@@ -1,5 +1,4 @@
 -- `link_and_walk` meets its contract.
-use Prim.Native.Nat.{◌-◌}
 use Rattle.path_splice_links.proofs.Threads.{ready_first, ready-second, woven}
 use Rattle.path_splice_links.proofs.link_and_walk.Goals as goal
 

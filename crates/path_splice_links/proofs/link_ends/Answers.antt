@@ -1,6 +1,6 @@
 -- `link_ends` meets its contract.
 use native.Mathlib.Omega.{arith}
-use Prim.Native.Nat.{◌-◌, ◌*◌}
+use Prim.Native.Nat.{◌*◌}
 use Rattle.path_splice_links.proofs.Mirroring.{count-le, size-3, ranked-3, linked-4}
 use Rattle.order.proofs.Parts.{cleared}
 use Rattle.path_splice_links.proofs.link_ends.Goals as goal

@@ -1,11 +1,5 @@
 use native.Mathlib.Omega.{arith}
-use mathlib.Core.Path.{◌≡◌, refl, ◌∙◌}
-use Prim.Native.Nat.{◌-◌, ◌*◌, ◌≤◌}
-use lib.ListN.{length}
-use Rattle.order.specs.Regions.{region, Into}
-use Rattle.path_splice_links.specs.Runs.{Linked}
-use Rattle.path_splice_links.specs.Layout.{order_at, links_at, values_in, links_in}
-use Rattle.path_splice_links.proofs.Running.{Edge}
+use mathlib.Core.Path.{refl, ◌∙◌}
 use Rattle.path_splice_links.proofs.Mirroring.{links-none, reach-lt, reach-in, ends_low, ends-apart, links-more, links-all}
 use Rattle.path_splice_links.proofs.link_runs.Goals as goal
 

@@ -1,14 +1,12 @@
 -- `link_runs` meets its contract. A run begins at p, the ends at the places before it are linked by their mirrors, and
 -- no other word is changed; the places that are left fall.
-use native.Mathlib.Omega.{arith}
-use mathlib.Core.Path.{◌≡◌, refl, ◌∙◌}
+use mathlib.Core.Path.{◌≡◌}
 use Prim.Native.Nat.{◌-◌, ◌*◌, ◌≤◌}
 use lib.ListN.{length}
 use Rattle.order.specs.Regions.{region, Into}
 use Rattle.path_splice_links.specs.Runs.{Linked}
 use Rattle.path_splice_links.specs.Layout.{order_at, links_at, values_in, links_in}
 use Rattle.path_splice_links.proofs.Running.{Edge}
-use Rattle.path_splice_links.proofs.Mirroring.{links-none, reach-lt, reach-in, ends_low, ends-apart, links-more, links-all}
 use Rattle.path_splice_links.proofs.link_runs.Given as goal
 
 abbrev pub invariant-loop-p : goal.invariant-loop-p

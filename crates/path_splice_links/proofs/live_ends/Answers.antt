@@ -1,10 +1,6 @@
 use native.Mathlib.Omega.{arith}
-use mathlib.Core.Path.{◌≡◌, refl}
-use Prim.Native.Nat.{◌-◌, ◌*◌, ◌≤◌}
-use lib.ListN.{length, length-set}
-use Rattle.order.specs.Regions.{region, Into}
-use Rattle.path_splice_links.specs.Layout.{order_at, todo_in}
-use Rattle.path_splice_links.proofs.Lives.{Living}
+use mathlib.Core.Path.{refl}
+use lib.ListN.{length-set}
 use Rattle.path_splice_links.proofs.Mirroring.{lives_none, lives-skip, lives-keep, lives_all}
 use Rattle.path_splice_links.proofs.live_ends.Goals as goal
 

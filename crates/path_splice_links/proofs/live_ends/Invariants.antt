@@ -1,13 +1,11 @@
 -- `live_ends` meets its contract. Of the ends below e those of strokes that are there are written, k of them, and no
 -- other word is changed; the ends that are left fall.
-use native.Mathlib.Omega.{arith}
-use mathlib.Core.Path.{◌≡◌, refl}
+use mathlib.Core.Path.{◌≡◌}
 use Prim.Native.Nat.{◌-◌, ◌*◌, ◌≤◌}
-use lib.ListN.{length, length-set}
+use lib.ListN.{length}
 use Rattle.order.specs.Regions.{region, Into}
 use Rattle.path_splice_links.specs.Layout.{order_at, todo_in}
 use Rattle.path_splice_links.proofs.Lives.{Living}
-use Rattle.path_splice_links.proofs.Mirroring.{lives_none, lives-skip, lives-keep, lives_all}
 use Rattle.path_splice_links.proofs.live_ends.Given as goal
 
 abbrev pub invariant-loop-e : goal.invariant-loop-e

@@ -1,10 +1,7 @@
 use native.Mathlib.Omega.{arith}
-use mathlib.Core.Path.{◌≡◌, refl}
-use Prim.Native.Nat.{ℕ, ◌+◌, ◌-◌, ◌*◌, ◌<◌, ◌≤◌}
-use lib.ListN.{length, get_or, length-set}
-use Rattle.order.specs.Regions.{region, Into}
-use Rattle.path_splice_links.specs.Runs.{Mirrored}
-use Rattle.path_splice_links.specs.Layout.{order_at, links_at, links_in}
+use mathlib.Core.Path.{refl}
+use Prim.Native.Nat.{ℕ, ◌+◌, ◌-◌, ◌*◌, ◌<◌}
+use lib.ListN.{get_or, length-set}
 use Rattle.path_splice_links.proofs.Mirroring.{mirrors_none, end_lt, mirrors-more, mirrors_all}
 use Rattle.path_splice_links.proofs.mirror_run.Goals as goal
 

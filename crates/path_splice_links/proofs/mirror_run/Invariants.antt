@@ -1,13 +1,11 @@
 -- `mirror_run` meets its contract. The ends at the places from p up to x are linked by their mirrors in the run, and no
 -- other word is changed; the places of the run that are left fall.
-use native.Mathlib.Omega.{arith}
-use mathlib.Core.Path.{◌≡◌, refl}
-use Prim.Native.Nat.{ℕ, ◌+◌, ◌-◌, ◌*◌, ◌<◌, ◌≤◌}
-use lib.ListN.{length, get_or, length-set}
+use mathlib.Core.Path.{◌≡◌}
+use Prim.Native.Nat.{◌-◌, ◌*◌, ◌≤◌}
+use lib.ListN.{length}
 use Rattle.order.specs.Regions.{region, Into}
 use Rattle.path_splice_links.specs.Runs.{Mirrored}
 use Rattle.path_splice_links.specs.Layout.{order_at, links_at, links_in}
-use Rattle.path_splice_links.proofs.Mirroring.{mirrors_none, end_lt, mirrors-more, mirrors_all}
 use Rattle.path_splice_links.proofs.mirror_run.Given as goal
 
 abbrev pub invariant-loop-x : goal.invariant-loop-x

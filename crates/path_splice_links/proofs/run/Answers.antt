@@ -1,12 +1,9 @@
-use mathlib.Core.Path.{◌≡◌, refl, ap}
-use Prim.Native.Nat.{◌-◌, ◌*◌, ◌<◌, ◌≤◌}
+use mathlib.Core.Path.{refl, ap}
+use Prim.Native.Nat.{◌*◌, ◌<◌, ◌≤◌}
 use native.Mathlib.Omega.{arith}
 use lib.ListN.{length, length-set}
 use Rattle.refusal.specs.Limits.{most_strokes}
-use Rattle.order.specs.Regions.{region, Into2}
 use Rattle.path_splice_links.specs.Links.{link_word}
-use Rattle.path_splice_links.specs.Layout.{order_at, todo_at, links_in, todo_in}
-use Rattle.path_splice_links.proofs.Loop.{Walking}
 use Rattle.path_splice_links.proofs.Threads.{runs_none, end_lt, place-lt, within_more, runs-finish, runs-turn}
 use Rattle.path_splice_links.proofs.run.Goals as goal
 

@@ -1,15 +1,11 @@
 -- `run` meets its contract. The stroke of e is still to do, and the chain walked so far with the one from e on is the
 -- chain from the start; the room for ends that is left falls.
-use mathlib.Core.Path.{◌≡◌, refl, ap}
+use mathlib.Core.Path.{◌≡◌}
 use Prim.Native.Nat.{◌-◌, ◌*◌, ◌<◌, ◌≤◌}
-use native.Mathlib.Omega.{arith}
-use lib.ListN.{length, length-set}
-use Rattle.refusal.specs.Limits.{most_strokes}
+use lib.ListN.{length}
 use Rattle.order.specs.Regions.{region, Into2}
-use Rattle.path_splice_links.specs.Links.{link_word}
 use Rattle.path_splice_links.specs.Layout.{order_at, todo_at, links_in, todo_in}
 use Rattle.path_splice_links.proofs.Loop.{Walking}
-use Rattle.path_splice_links.proofs.Threads.{runs_none, end_lt, place-lt, within_more, runs-finish, runs-turn}
 use Rattle.path_splice_links.proofs.run.Given as goal
 
 abbrev pub invariant-loop-g : goal.invariant-loop-g

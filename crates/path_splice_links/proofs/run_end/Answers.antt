@@ -1,8 +1,5 @@
 use native.Mathlib.Omega.{arith}
-use mathlib.Core.Path.{◌≡◌, sym, ◌∙◌}
-use Prim.Native.Nat.{ℕ, ◌-◌, ◌<◌, ◌≤◌}
-use lib.ListN.{length}
-use Rattle.path_splice_links.specs.Runs.{end_value}
+use mathlib.Core.Path.{sym, ◌∙◌}
 use Rattle.path_splice_links.proofs.Running.{same_more, same-one}
 use Rattle.path_splice_links.proofs.run_end.Goals as goal
 

@@ -1,10 +1,8 @@
 -- `run_end` meets its contract. The places from p up to q have the value of p; the places that are left fall.
-use native.Mathlib.Omega.{arith}
-use mathlib.Core.Path.{◌≡◌, sym, ◌∙◌}
+use mathlib.Core.Path.{◌≡◌}
 use Prim.Native.Nat.{ℕ, ◌-◌, ◌<◌, ◌≤◌}
 use lib.ListN.{length}
 use Rattle.path_splice_links.specs.Runs.{end_value}
-use Rattle.path_splice_links.proofs.Running.{same_more, same-one}
 use Rattle.path_splice_links.proofs.run_end.Given as goal
 
 abbrev pub invariant-loop-q : goal.invariant-loop-q

@@ -1,10 +1,6 @@
 use native.Mathlib.Omega.{arith}
-use mathlib.Core.Path.{◌≡◌, refl, ◌∙◌}
-use Prim.Native.Nat.{◌-◌, ◌≤◌}
-use lib.ListN.{length}
-use Rattle.order.specs.Regions.{Into2}
-use Rattle.path_splice_links.specs.Layout.{order_at, todo_at}
-use Rattle.path_splice_links.proofs.Threads.{Passing, passes_none, ready-more, passes-more, passes_all}
+use mathlib.Core.Path.{refl, ◌∙◌}
+use Rattle.path_splice_links.proofs.Threads.{passes_none, ready-more, passes-more, passes_all}
 use Rattle.path_splice_links.proofs.walk_pass.Goals as goal
 
 pub loop-i-init : goal.loop-i-init

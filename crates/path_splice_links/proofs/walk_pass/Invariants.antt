@@ -1,12 +1,11 @@
 -- `walk_pass` meets its contract. The chains drawn so far and those of the strokes from the i-th on are those of all
 -- strokes; the strokes that are left fall.
-use native.Mathlib.Omega.{arith}
-use mathlib.Core.Path.{◌≡◌, refl, ◌∙◌}
+use mathlib.Core.Path.{◌≡◌}
 use Prim.Native.Nat.{◌-◌, ◌≤◌}
 use lib.ListN.{length}
 use Rattle.order.specs.Regions.{Into2}
 use Rattle.path_splice_links.specs.Layout.{order_at, todo_at}
-use Rattle.path_splice_links.proofs.Threads.{Passing, passes_none, ready-more, passes-more, passes_all}
+use Rattle.path_splice_links.proofs.Threads.{Passing}
 use Rattle.path_splice_links.proofs.walk_pass.Given as goal
 
 abbrev pub invariant-loop-i : goal.invariant-loop-i

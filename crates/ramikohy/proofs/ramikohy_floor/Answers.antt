@@ -1,7 +1,5 @@
 -- `ramikohy_floor` meets its contract, by that of `floor` and of the refusal's number.
 use mathlib.Core.Path.{sym, ap, ◌∙◌}
-use mir.Syntax.{w64}
-use mir.ValLaws.{to_z-of_z}
 use Rattle.vector.specs.Answers.{whole_said}
 use Rattle.ramikohy.specs.Status.{valued, valued_by}
 use Rattle.ramikohy.proofs.ramikohy_floor.Goals as goal

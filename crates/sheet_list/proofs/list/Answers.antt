@@ -1,6 +1,5 @@
 -- `list` meets its contract: a longer input, bytes that are no sheet, and a sheet.
 use mathlib.Core.Path.{sym, ◌∙◌}
-use borrow.Author.Tests.{not-true, not-false}
 use Rattle.sheet_list.proofs.Lines.{text_long, text_none, text_some, text_is, same-refusal, refused-size, listed-size}
 use Rattle.sheet_list.proofs.list.Goals as goal
 

@@ -1,7 +1,5 @@
-use mathlib.Core.Path.{◌≡◌, refl}
-use Prim.Native.Nat.{◌-◌, ◌≤◌}
+use mathlib.Core.Path.{refl}
 use native.Mathlib.Omega.{arith}
-use Rattle.sheet_list.specs.Listing.{top_from}
 use Rattle.sheet_list.proofs.Inks.{ten-times, top-turn, top-end, top-all}
 use Rattle.sheet_list.proofs.top.Goals as goal
 

@@ -1,10 +1,8 @@
 -- `top` meets its contract. The power that is found from p on in the turns that are left is the one that is found from
 -- 1 on in all; the turns that are left fall.
-use mathlib.Core.Path.{◌≡◌, refl}
+use mathlib.Core.Path.{◌≡◌}
 use Prim.Native.Nat.{◌-◌, ◌≤◌}
-use native.Mathlib.Omega.{arith}
 use Rattle.sheet_list.specs.Listing.{top_from}
-use Rattle.sheet_list.proofs.Inks.{ten-times, top-turn, top-end, top-all}
 use Rattle.sheet_list.proofs.top.Given as goal
 
 abbrev pub invariant-loop-i : goal.invariant-loop-i

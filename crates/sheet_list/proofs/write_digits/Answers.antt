@@ -1,10 +1,6 @@
-use mathlib.Core.Path.{◌≡◌, refl, ap, ◌∙◌}
-use Prim.Native.Nat.{◌+◌, ◌-◌, ◌≤◌}
+use mathlib.Core.Path.{refl, ap, ◌∙◌}
 use native.Mathlib.Omega.{arith}
 use lib.ListN.{length, length-set}
-use lib.Seq.{sets}
-use Rattle.path.specs.Courses.{course, advanced}
-use Rattle.sheet_list.specs.Listing.{digits_from}
 use Rattle.sheet_list.proofs.Inks.{above, digit_turn, digit_stop, digit_end}
 use Rattle.sheet_list.proofs.write_digits.Goals as goal
 

@@ -1,13 +1,11 @@
 -- `write_digits` meets its contract. Writing the digits from the power q down from here leaves what writing all leaves,
 -- and so far there are at most as many bytes as turns; the turns that are left fall.
-use mathlib.Core.Path.{◌≡◌, refl, ap, ◌∙◌}
+use mathlib.Core.Path.{◌≡◌}
 use Prim.Native.Nat.{◌+◌, ◌-◌, ◌≤◌}
-use native.Mathlib.Omega.{arith}
-use lib.ListN.{length, length-set}
+use lib.ListN.{length}
 use lib.Seq.{sets}
 use Rattle.path.specs.Courses.{course, advanced}
 use Rattle.sheet_list.specs.Listing.{digits_from}
-use Rattle.sheet_list.proofs.Inks.{above, digit_turn, digit_stop, digit_end}
 use Rattle.sheet_list.proofs.write_digits.Given as goal
 
 abbrev pub invariant-loop-i : goal.invariant-loop-i

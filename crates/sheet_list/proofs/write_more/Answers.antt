@@ -1,12 +1,6 @@
-use mathlib.Core.Path.{◌≡◌, refl}
-use Prim.Native.Nat.{◌+◌, ◌-◌, ◌*◌, ◌≤◌}
+use mathlib.Core.Path.{refl}
 use native.Mathlib.Omega.{arith}
-use lib.ListN.{length}
-use lib.Seq.{sets}
-use Rattle.path.specs.Strokes.{gather}
-use Rattle.path.specs.Courses.{course, advanced}
 use Rattle.sheet.specs.Sheets.{word_at}
-use Rattle.sheet_list.specs.Listing.{spaced}
 use Rattle.sheet_list.proofs.Inks.{space_turn, space_end}
 use Rattle.sheet_list.proofs.write_more.Goals as goal
 

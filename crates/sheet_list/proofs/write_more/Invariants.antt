@@ -1,15 +1,13 @@
 -- `write_more` meets its contract. Writing the words from the i-th on from here leaves what writing all leaves, and so
 -- far there are at most 11 bytes a word; the words that are left fall.
-use mathlib.Core.Path.{◌≡◌, refl}
+use mathlib.Core.Path.{◌≡◌}
 use Prim.Native.Nat.{◌+◌, ◌-◌, ◌*◌, ◌≤◌}
-use native.Mathlib.Omega.{arith}
 use lib.ListN.{length}
 use lib.Seq.{sets}
 use Rattle.path.specs.Strokes.{gather}
 use Rattle.path.specs.Courses.{course, advanced}
 use Rattle.sheet.specs.Sheets.{word_at}
 use Rattle.sheet_list.specs.Listing.{spaced}
-use Rattle.sheet_list.proofs.Inks.{space_turn, space_end}
 use Rattle.sheet_list.proofs.write_more.Given as goal
 
 abbrev pub invariant-loop-i : goal.invariant-loop-i

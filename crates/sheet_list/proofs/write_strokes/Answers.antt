@@ -1,13 +1,8 @@
-use mathlib.Core.Path.{◌≡◌, refl}
-use Prim.Native.Nat.{◌+◌, ◌-◌, ◌*◌, ◌≤◌}
+use mathlib.Core.Path.{refl}
 use native.Mathlib.Omega.{arith}
-use lib.ListN.{length, drop}
-use lib.Seq.{sets}
-use Rattle.path.specs.Strokes.{gather, strokes_of}
-use Rattle.path.specs.Courses.{course, advanced}
+use Rattle.path.specs.Strokes.{gather}
 use Rattle.path.proofs.Gathers.{length-gather}
 use Rattle.sheet.specs.Sheets.{header_words, word_at}
-use Rattle.sheet_list.specs.Listing.{lines_of}
 use Rattle.sheet_list.specs.InnerLines.{number_in}
 use Rattle.sheet_list.proofs.Lines.{stroke_turn, stroke_end}
 use Rattle.sheet_list.proofs.write_strokes.Goals as goal

@@ -1,17 +1,14 @@
 -- `write_strokes` meets its contract. Writing the lines of the strokes from the i-th on from here leaves what writing
 -- all leaves, and so far there are at most 0x17_0000_0000 bytes a stroke; the strokes that are left fall.
-use mathlib.Core.Path.{◌≡◌, refl}
+use mathlib.Core.Path.{◌≡◌}
 use Prim.Native.Nat.{◌+◌, ◌-◌, ◌*◌, ◌≤◌}
-use native.Mathlib.Omega.{arith}
 use lib.ListN.{length, drop}
 use lib.Seq.{sets}
 use Rattle.path.specs.Strokes.{gather, strokes_of}
 use Rattle.path.specs.Courses.{course, advanced}
-use Rattle.path.proofs.Gathers.{length-gather}
 use Rattle.sheet.specs.Sheets.{header_words, word_at}
 use Rattle.sheet_list.specs.Listing.{lines_of}
 use Rattle.sheet_list.specs.InnerLines.{number_in}
-use Rattle.sheet_list.proofs.Lines.{stroke_turn, stroke_end}
 use Rattle.sheet_list.proofs.write_strokes.Given as goal
 
 abbrev pub invariant-loop-i : goal.invariant-loop-i

@@ -1,15 +1,10 @@
 -- `copy_words` meets its contract. Storing the words from the i-th on from here leaves what storing all leaves; the
 -- words that are left fall.
-use mathlib.Core.Path.{◌≡◌, sym, ap, ◌∙◌}
-use mathlib.Core.List.{List}
-use Prim.Native.Nat.{ℕ, ◌+◌, ◌-◌}
-use native.Mathlib.Omega.{arith}
-use native.Mathlib.Nat.{add-zero}
-use lib.ListN.{length}
-use lib.Seq.{sets, length-sets}
+use mathlib.Core.Path.{◌≡◌}
+use Prim.Native.Nat.{◌+◌, ◌-◌}
+use lib.Seq.{sets}
 use Rattle.path.specs.Strokes.{gather}
 use Rattle.sheet.specs.Sheets.{word_at}
-use Rattle.sheet_read.proofs.Loops.{copy_turn, copy_end}
 use Rattle.sheet_read.proofs.copy_words.Given as goal
 
 abbrev pub invariant-loop-i : goal.invariant-loop-i

@@ -1,6 +1,5 @@
 -- `header_good` meets its contract: each test is that of the definition.
 use mathlib.Core.Path.{sym, ◌∙◌}
-use borrow.Author.Tests.{not-true, not-false}
 use Rattle.sheet.specs.Sheets.{header_good}
 use Rattle.sheet_read.proofs.header_good.Goals as goal
 

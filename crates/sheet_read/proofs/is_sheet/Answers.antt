@@ -1,7 +1,6 @@
 -- `is_sheet` meets its contract: header, starts and numbers.
 use mathlib.Core.Path.{sym, ◌∙◌}
 use native.Mathlib.Omega.{arith}
-use borrow.Author.Tests.{not-true, not-false}
 use Rattle.sheet.specs.Sheets.{is_sheet}
 use Rattle.sheet_read.proofs.Calls.{header_limits, table_is, below-is}
 use Rattle.sheet_read.proofs.is_sheet.Goals as goal

@@ -1,6 +1,5 @@
 -- `read_verdict` meets its contract: 9 before 6.
 use mathlib.Core.Path.{sym, ◌∙◌}
-use borrow.Author.Tests.{not-true, not-false}
 use Rattle.refusal.specs.Refusals.{unless}
 use Rattle.sheet_read.specs.Call.{verdict_of}
 use Rattle.sheet_read.proofs.read_verdict.Goals as goal

@@ -1,8 +1,6 @@
-use mathlib.Core.Path.{◌≡◌, refl, sym, ◌∙◌}
-use Prim.Native.Nat.{◌-◌}
+use mathlib.Core.Path.{refl, sym, ◌∙◌}
 use native.Mathlib.Omega.{arith}
-use Rattle.path.specs.Strokes.{gather}
-use Rattle.sheet.specs.Sheets.{word_at, strict_from}
+use Rattle.sheet.specs.Sheets.{word_at}
 use Rattle.sheet_read.proofs.Loops.{strict-turn, strict-low, strict-high, strict_end}
 use Rattle.sheet_read.proofs.strict_from.Goals as goal
 

@@ -1,11 +1,9 @@
 -- `strict_from` meets its contract. The words from the i-th on rise strictly above the last one passed, and stay below
 -- n, where all do above s; the words that are left fall.
-use mathlib.Core.Path.{◌≡◌, refl, sym, ◌∙◌}
+use mathlib.Core.Path.{◌≡◌}
 use Prim.Native.Nat.{◌-◌}
-use native.Mathlib.Omega.{arith}
 use Rattle.path.specs.Strokes.{gather}
 use Rattle.sheet.specs.Sheets.{word_at, strict_from}
-use Rattle.sheet_read.proofs.Loops.{strict-turn, strict-low, strict-high, strict_end}
 use Rattle.sheet_read.proofs.strict_from.Given as goal
 
 abbrev pub invariant-loop-i : goal.invariant-loop-i

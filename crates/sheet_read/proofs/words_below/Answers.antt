@@ -1,8 +1,5 @@
-use mathlib.Core.Path.{◌≡◌, refl, sym, ◌∙◌}
-use Prim.Native.Nat.{◌-◌}
+use mathlib.Core.Path.{refl, sym, ◌∙◌}
 use native.Mathlib.Omega.{arith}
-use Rattle.path.specs.Strokes.{gather}
-use Rattle.mesh.specs.Meshes.{all_below}
 use Rattle.sheet.specs.Sheets.{word_at}
 use Rattle.sheet_read.proofs.Loops.{below-turn, below-not, below_end}
 use Rattle.sheet_read.proofs.words_below.Goals as goal

@@ -1,11 +1,9 @@
 -- `words_below` meets its contract. The words from the i-th on are below n where all are; the words that are left fall.
-use mathlib.Core.Path.{◌≡◌, refl, sym, ◌∙◌}
+use mathlib.Core.Path.{◌≡◌}
 use Prim.Native.Nat.{◌-◌}
-use native.Mathlib.Omega.{arith}
 use Rattle.path.specs.Strokes.{gather}
 use Rattle.mesh.specs.Meshes.{all_below}
 use Rattle.sheet.specs.Sheets.{word_at}
-use Rattle.sheet_read.proofs.Loops.{below-turn, below-not, below_end}
 use Rattle.sheet_read.proofs.words_below.Given as goal
 
 abbrev pub invariant-loop-i : goal.invariant-loop-i

@@ -1,6 +1,5 @@
 use Rattle.sheet_salvage.proofs.Points.{begun-bits}
 use native.Mathlib.Omega.{arith}
-use Rattle.sheet_salvage.proofs.begun_one.Reads as reads
 use Rattle.sheet_salvage.proofs.begun_one.Goals as goal
 
 pub returns : goal.returns

@@ -1,7 +1,6 @@
 use lib.Dec.{ltb}
 use borrow.Author.Tests.{lt-ltb, le-ltb}
 use Rattle.sheet_salvage.proofs.Points.{bit_few}
-use Rattle.sheet_salvage.proofs.below.Reads as reads
 use Rattle.sheet_salvage.proofs.below.Goals as goal
 
 pub returns-then-x-y : goal.returns-then-x-y

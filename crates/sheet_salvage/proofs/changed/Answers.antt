@@ -1,5 +1,4 @@
 use borrow.Author.Tests.{eq-eqb, ne_eqb}
-use Rattle.sheet_salvage.proofs.changed.Reads as reads
 use Rattle.sheet_salvage.proofs.changed.Goals as goal
 
 pub returns-then-stated-written : goal.returns-then-stated-written

@@ -1,23 +1,15 @@
-use mathlib.Core.Path.{◌≡◌, refl, ap, ◌∙◌}
-use Prim.Native.Nat.{ℕ, ◌+◌, ◌-◌, ◌≤◌}
+use mathlib.Core.Path.{refl, ap, ◌∙◌}
+use Prim.Native.Nat.{ℕ, ◌-◌}
 use native.Mathlib.Omega.{arith}
 use lib.ListN.{length}
 use lib.Dec.{ltb, eqb}
 use mathlib.Core.Bool.{◌&&◌}
-use Rattle.path.specs.Strokes.{gather}
-use Rattle.path.specs.Laid.{joined}
 use Rattle.path.proofs.Pushes.{length-starts}
 use Rattle.sheet_salvage.specs.Salvage.{behind}
 use Rattle.sheet_salvage.specs.InnerPieces.{kept_from}
-use Rattle.sheet_salvage.specs.InnerScan.{num, scanned, begun, good_of}
+use Rattle.sheet_salvage.specs.InnerScan.{num}
 use Rattle.sheet_salvage.proofs.Scans.{scan_is, begun-is}
 use Rattle.sheet_salvage.proofs.Points.{num-few, same_place, points_step, starts_step, good-step, good-end, scan_end, begun-end, good-read, no_points}
-use Rattle.sheet_salvage.proofs.count_stroke.Reads as reads
-use Rattle.sheet.proofs.word_at.Reads as word-at-reads
-use Rattle.sheet_salvage.proofs.begun_one.Reads as begun-one-reads
-use Rattle.sheet_salvage.proofs.below.Reads as below-reads
-use Rattle.sheet_salvage.proofs.good_one.Reads as good-one-reads
-use Rattle.sheet_salvage.proofs.kept_one.Reads as kept-one-reads
 use Rattle.sheet_salvage.proofs.count_stroke.Goals as goal
 
 pub overflow_sub-e : goal.overflow_sub-e

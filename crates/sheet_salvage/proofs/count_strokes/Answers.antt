@@ -1,6 +1,6 @@
 use mathlib.Core.Path.{◌≡◌, refl, sym, ap, ◌∙◌}
 use mathlib.Core.Bool.{cond}
-use Prim.Native.Nat.{ℕ, ◌+◌, ◌-◌, ◌≤◌, ◌<◌}
+use Prim.Native.Nat.{ℕ, ◌+◌, ◌-◌, ◌<◌}
 use native.Mathlib.Omega.{arith}
 use lib.Dec.{eqb}
 use Rattle.path.specs.Strokes.{gather}
@@ -11,10 +11,6 @@ use Rattle.sheet_salvage.specs.InnerScan.{num, good_of}
 use Rattle.sheet_salvage.proofs.Lays.{after_none}
 use Rattle.sheet_salvage.proofs.Points.{num-few, none-stroked, all_stroked, good_more, good-end}
 use Rattle.sheet_salvage.proofs.Turns.{count-more, end_within, end_next, end_last, saved-turn, saved_end, ignored_turn, ignored_end}
-use Rattle.sheet_salvage.proofs.count_strokes.Reads as reads
-use Rattle.sheet.proofs.numbers_from.Reads as numbers-from-reads
-use Rattle.sheet_salvage.proofs.count_stroke.Reads as count-stroke-reads
-use Rattle.sheet_salvage.proofs.end_of.Reads as end-of-reads
 use Rattle.sheet_salvage.proofs.count_strokes.Goals as goal
 
 pub loop-i-init : goal.loop-i-init

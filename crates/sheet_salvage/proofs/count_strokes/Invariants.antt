@@ -1,21 +1,13 @@
 -- The invariants of `count_strokes`.
-use mathlib.Core.Path.{◌≡◌, refl, sym, ap, ◌∙◌}
+use mathlib.Core.Path.{◌≡◌}
 use mathlib.Core.Bool.{cond}
-use Prim.Native.Nat.{ℕ, ◌+◌, ◌-◌, ◌≤◌, ◌<◌}
-use native.Mathlib.Omega.{arith}
+use Prim.Native.Nat.{◌+◌, ◌-◌, ◌≤◌, ◌<◌}
 use lib.Dec.{eqb}
 use Rattle.path.specs.Strokes.{gather}
 use Rattle.sheet.specs.Sheets.{word_at}
 use Rattle.sheet_salvage.specs.Salvage.{behind}
 use Rattle.sheet_salvage.specs.InnerPieces.{saved_by, ignored_by, after}
-use Rattle.sheet_salvage.specs.InnerScan.{num, good_of}
-use Rattle.sheet_salvage.proofs.Lays.{after_none}
-use Rattle.sheet_salvage.proofs.Points.{num-few, none-stroked, all_stroked, good_more, good-end}
-use Rattle.sheet_salvage.proofs.Turns.{count-more, end_within, end_next, end_last, saved-turn, saved_end, ignored_turn, ignored_end}
-use Rattle.sheet_salvage.proofs.count_strokes.Reads as reads
-use Rattle.sheet.proofs.numbers_from.Reads as numbers-from-reads
-use Rattle.sheet_salvage.proofs.count_stroke.Reads as count-stroke-reads
-use Rattle.sheet_salvage.proofs.end_of.Reads as end-of-reads
+use Rattle.sheet_salvage.specs.InnerScan.{good_of}
 use Rattle.sheet_salvage.proofs.count_strokes.Given as goal
 
 abbrev pub invariant-loop-i : goal.invariant-loop-i

@@ -1,6 +1,4 @@
 use borrow.Author.Tests.{lt-ltb, le-ltb}
-use Rattle.sheet_salvage.proofs.end_of.Reads as reads
-use Rattle.sheet_salvage.proofs.start_after.Reads as start-after-reads
 use Rattle.sheet_salvage.proofs.end_of.Goals as goal
 
 pub returns-then-i-strokes : goal.returns-then-i-strokes

@@ -1,8 +1,6 @@
 use Rattle.sheet_salvage.proofs.Points.{bit_few, and_bits}
 use mathlib.Core.Bool.{◌&&◌}
 use lib.Dec.{ltb}
-use Rattle.sheet_salvage.proofs.good_one.Reads as reads
-use Rattle.sheet_salvage.proofs.below.Reads as below-reads
 use Rattle.sheet_salvage.proofs.good_one.Goals as goal
 
 pub returns : goal.returns

@@ -1,11 +1,5 @@
 use mathlib.Core.Path.{sym, ◌∙◌}
-use borrow.Author.Tests.{not-true, not-false}
 use Rattle.sheet_salvage.specs.Salvage.{header_usable}
-use Rattle.sheet_salvage.proofs.header_usable.Reads as reads
-use Rattle.sheet.proofs.counts_good.Reads as counts-good-reads
-use Rattle.sheet.proofs.mode_good.Reads as mode-good-reads
-use Rattle.sheet.proofs.numbers_from.Reads as numbers-from-reads
-use Rattle.sheet.proofs.word_at.Reads as word-at-reads
 use Rattle.sheet_salvage.proofs.header_usable.Goals as goal
 
 pub returns-then-not-mode_good : goal.returns-then-not-mode_good

@@ -4,9 +4,6 @@ use native.Mathlib.Omega.{arith}
 use borrow.Author.Tests.{eq-eqb, ne_eqb}
 use Rattle.sheet_salvage.specs.Salvage.{changed}
 use Rattle.sheet_salvage.proofs.Starts.{changed-few}
-use Rattle.sheet_salvage.proofs.ignored.Reads as reads
-use Rattle.sheet.proofs.word_at.Reads as word-at-reads
-use Rattle.sheet_salvage.proofs.changed.Reads as changed-reads
 use Rattle.sheet_salvage.proofs.ignored.Goals as goal
 
 pub returns-then-strokes-eq0 : goal.returns-then-strokes-eq0

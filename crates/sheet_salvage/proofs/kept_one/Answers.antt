@@ -1,6 +1,5 @@
 use Rattle.sheet_salvage.proofs.Points.{kept-bits}
 use native.Mathlib.Omega.{arith}
-use Rattle.sheet_salvage.proofs.kept_one.Reads as reads
 use Rattle.sheet_salvage.proofs.kept_one.Goals as goal
 
 pub returns : goal.returns

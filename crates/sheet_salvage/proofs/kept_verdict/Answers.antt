@@ -4,8 +4,6 @@ use borrow.Author.Tests.{le-leb, lt-leb}
 use Rattle.refusal.specs.Refusals.{unless}
 use Rattle.sheet_salvage.specs.Call.{kept_verdict}
 use Rattle.refusal.specs.Limits.{most_strokes}
-use Rattle.sheet_salvage.proofs.kept_verdict.Reads as reads
-use Rattle.sheet.proofs.numbers_from.Reads as numbers-from-reads
 use Rattle.sheet_salvage.proofs.kept_verdict.Goals as goal
 
 pub returns-then-strokes-gt-MOST_STROKES : goal.returns-then-strokes-gt-MOST_STROKES

@@ -1,5 +1,4 @@
 use borrow.Author.Tests.{le-leb, lt-leb}
-use Rattle.sheet_salvage.proofs.lesser.Reads as reads
 use Rattle.sheet_salvage.proofs.lesser.Goals as goal
 
 pub returns-then-x-y : goal.returns-then-x-y

@@ -3,10 +3,6 @@ use Rattle.sheet.specs.Sheets.{header_words}
 use native.Mathlib.Omega.{arith}
 use Rattle.sheet_salvage.specs.Salvage.{offsets_by}
 use Rattle.sheet_salvage.proofs.Starts.{changed-few}
-use Rattle.sheet_salvage.proofs.offsets.Reads as reads
-use Rattle.sheet.proofs.numbers_from.Reads as numbers-from-reads
-use Rattle.sheet.proofs.word_at.Reads as word-at-reads
-use Rattle.sheet_salvage.proofs.changed.Reads as changed-reads
 use Rattle.sheet_salvage.proofs.offsets.Goals as goal
 
 pub overflow_add-result : goal.overflow_add-result

@@ -1,6 +1,4 @@
 use borrow.Author.Tests.{lt-ltb, le-ltb}
-use Rattle.sheet_salvage.proofs.put_below.Reads as reads
-use Rattle.sheet.proofs.put_word.Reads as put-word-reads
 use Rattle.sheet_salvage.proofs.put_below.Goals as goal
 
 pub returns-then-at-total : goal.returns-then-at-total

@@ -3,13 +3,6 @@ use Prim.Native.Nat.{◌-◌}
 use native.Mathlib.Omega.{arith}
 use Rattle.sheet_salvage.specs.Salvage.{wild_in}
 use Rattle.sheet_salvage.proofs.Calls.{stroked_is, kept-starts, kept-points, few_points, salvaged-length, ignored_is, offsets_are, left_over, all_told}
-use Rattle.sheet_salvage.proofs.report.Reads as reads
-use Rattle.sheet.proofs.numbers_from.Reads as numbers-from-reads
-use Rattle.sheet.proofs.word_at.Reads as word-at-reads
-use Rattle.sheet_salvage.proofs.ignored.Reads as ignored-reads
-use Rattle.sheet_salvage.proofs.offsets.Reads as offsets-reads
-use Rattle.sheet_salvage.proofs.stroked.Reads as stroked-reads
-use Rattle.sheet_salvage.proofs.taken.Reads as taken-reads
 use Rattle.sheet_salvage.proofs.report.Goals as goal
 
 pub overflow_sub-numbers : goal.overflow_sub-numbers

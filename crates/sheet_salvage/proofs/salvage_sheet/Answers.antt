@@ -1,11 +1,7 @@
 use Rattle.refusal.specs.Outcome.{outcome}
 use mathlib.Core.Path.{sym, ◌∙◌}
-use borrow.Author.Tests.{not-true, not-false}
 use Rattle.refusal.specs.Refusals.{unless}
 use Rattle.sheet_salvage.specs.Call.{verdict_of, salvage_left}
-use Rattle.sheet_salvage.proofs.salvage_sheet.Reads as reads
-use Rattle.sheet_salvage.proofs.header_usable.Reads as header-usable-reads
-use Rattle.sheet_salvage.proofs.salvage_usable.Reads as salvage-usable-reads
 use Rattle.sheet_salvage.proofs.salvage_sheet.Goals as goal
 
 pub returns-then-not-header_usable : goal.returns-then-not-header_usable

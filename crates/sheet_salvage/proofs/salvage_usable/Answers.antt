@@ -7,13 +7,6 @@ use Rattle.refusal.proofs.Outcomes.{accept, refuse}
 use Rattle.sheet_salvage.specs.InnerPieces.{after}
 use Rattle.sheet_salvage.specs.Call.{salvaged, salvage_left}
 use Rattle.sheet_salvage.proofs.Calls.{few_strokes, saved_read, kept-starts, kept-points, salvaged-length, good-is, ignored_read, granted, verdict_is, all_left}
-use Rattle.sheet_salvage.proofs.salvage_usable.Reads as reads
-use Rattle.sheet.proofs.word_at.Reads as word-at-reads
-use Rattle.sheet_salvage.proofs.count_strokes.Reads as count-strokes-reads
-use Rattle.sheet_salvage.proofs.kept_verdict.Reads as kept-verdict-reads
-use Rattle.sheet_salvage.proofs.report.Reads as report-reads
-use Rattle.sheet_salvage.proofs.taken.Reads as taken-reads
-use Rattle.sheet_salvage.proofs.write_kept.Reads as write-kept-reads
 use Rattle.sheet_salvage.proofs.salvage_usable.Goals as goal
 
 pub count_strokes-t-requires : goal.count_strokes-t-requires

@@ -1,6 +1,4 @@
 use borrow.Author.Tests.{lt-ltb, le-ltb}
-use Rattle.sheet_salvage.proofs.start_after.Reads as reads
-use Rattle.sheet.proofs.word_at.Reads as word-at-reads
 use Rattle.sheet_salvage.proofs.start_after.Goals as goal
 
 pub returns-then-s-a : goal.returns-then-s-a

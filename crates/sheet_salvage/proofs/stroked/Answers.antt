@@ -1,5 +1,4 @@
 use borrow.Author.Tests.{eq-eqb, ne_eqb}
-use Rattle.sheet_salvage.proofs.stroked.Reads as reads
 use Rattle.sheet_salvage.proofs.stroked.Goals as goal
 
 pub returns-then-strokes-eq0 : goal.returns-then-strokes-eq0

@@ -3,10 +3,6 @@ use Prim.Native.Nat.{ℕ}
 use native.Mathlib.Omega.{arith}
 use Rattle.sheet.specs.Sheets.{numbers_from}
 use Rattle.sheet_salvage.proofs.Held.{none-taken, some_taken}
-use Rattle.sheet_salvage.proofs.taken.Reads as reads
-use Rattle.sheet.proofs.numbers_from.Reads as numbers-from-reads
-use Rattle.sheet.proofs.word_at.Reads as word-at-reads
-use Rattle.sheet_salvage.proofs.lesser.Reads as lesser-reads
 use Rattle.sheet_salvage.proofs.taken.Goals as goal
 
 pub returns-then-held-k : goal.returns-then-held-k

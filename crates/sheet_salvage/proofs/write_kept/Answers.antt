@@ -4,10 +4,6 @@ use Rattle.path.proofs.Pushes.{front}
 use Rattle.sheet_salvage.specs.InnerPieces.{after, laid_at}
 use Rattle.sheet_salvage.proofs.Held.{taken_few}
 use Rattle.sheet_salvage.proofs.Calls.{few_strokes, saved_read, kept-starts, few_points, kept_put}
-use Rattle.sheet_salvage.proofs.write_kept.Reads as reads
-use Rattle.sheet.proofs.word_at.Reads as word-at-reads
-use Rattle.sheet.proofs.write_header.Reads as write-header-reads
-use Rattle.sheet_salvage.proofs.write_strokes.Reads as write-strokes-reads
 use Rattle.sheet_salvage.proofs.write_kept.Goals as goal
 
 pub overflow_cast-kept : goal.overflow_cast-kept

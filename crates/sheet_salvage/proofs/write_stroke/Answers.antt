@@ -1,27 +1,17 @@
 use mathlib.Core.Path.{◌≡◌, refl, ap, ◌∙◌}
 use mathlib.Core.Bool.{◌&&◌}
-use mathlib.Core.List.{List, ◌++◌}
-use Prim.Native.Nat.{ℕ, ◌+◌, ◌-◌, ◌≤◌}
+use Prim.Native.Nat.{ℕ, ◌+◌, ◌-◌}
 use native.Mathlib.Omega.{arith}
 use lib.ListN.{length}
 use lib.Dec.{ltb, eqb}
-use Rattle.path.specs.Strokes.{gather}
-use Rattle.path.specs.Laid.{joined, starts_from}
+use Rattle.path.specs.Laid.{joined}
 use Rattle.path.proofs.Pushes.{length-starts}
-use Rattle.sheet.specs.Sheets.{header_words}
 use Rattle.sheet_salvage.specs.Salvage.{behind}
-use Rattle.sheet_salvage.specs.InnerPieces.{kept_from, placed}
-use Rattle.sheet_salvage.specs.InnerScan.{num, scanned, begun}
+use Rattle.sheet_salvage.specs.InnerPieces.{kept_from}
+use Rattle.sheet_salvage.specs.InnerScan.{num}
 use Rattle.sheet_salvage.proofs.Scans.{scan_is, begun-is}
 use Rattle.sheet_salvage.proofs.Points.{num-few, same_place, points_step, starts_step, scan_end, begun-end, good-read}
 use Rattle.sheet_salvage.proofs.Over.{numbers-back, starts-back, write_step, lays_over}
-use Rattle.sheet_salvage.proofs.write_stroke.Reads as reads
-use Rattle.sheet.proofs.word_at.Reads as word-at-reads
-use Rattle.sheet_salvage.proofs.begun_one.Reads as begun-one-reads
-use Rattle.sheet_salvage.proofs.below.Reads as below-reads
-use Rattle.sheet_salvage.proofs.good_one.Reads as good-one-reads
-use Rattle.sheet_salvage.proofs.kept_one.Reads as kept-one-reads
-use Rattle.sheet_salvage.proofs.put_below.Reads as put-below-reads
 use Rattle.sheet_salvage.proofs.write_stroke.Goals as goal
 
 pub overflow_sub-e : goal.overflow_sub-e

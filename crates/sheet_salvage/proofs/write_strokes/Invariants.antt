@@ -1,17 +1,10 @@
 -- The invariants of `write_strokes`.
-use mathlib.Core.Path.{◌≡◌, refl, sym, ap, ◌∙◌}
-use Prim.Native.Nat.{ℕ, ◌+◌, ◌-◌, ◌≤◌, ◌<◌}
-use native.Mathlib.Omega.{arith}
+use mathlib.Core.Path.{◌≡◌}
+use Prim.Native.Nat.{◌+◌, ◌-◌, ◌≤◌}
 use lib.ListN.{length}
 use Rattle.sheet.specs.Sheets.{header_words, word_at}
 use Rattle.sheet_salvage.specs.Salvage.{behind}
 use Rattle.sheet_salvage.specs.InnerPieces.{saved_by, after, laid_at}
-use Rattle.sheet_salvage.proofs.Lays.{laid_none}
-use Rattle.sheet_salvage.proofs.Turns.{count-more, lay_more, end_within, saved-turn, saved_end}
-use Rattle.sheet_salvage.proofs.write_strokes.Reads as reads
-use Rattle.sheet.proofs.numbers_from.Reads as numbers-from-reads
-use Rattle.sheet_salvage.proofs.end_of.Reads as end-of-reads
-use Rattle.sheet_salvage.proofs.write_stroke.Reads as write-stroke-reads
 use Rattle.sheet_salvage.proofs.write_strokes.Given as goal
 
 abbrev pub invariant-loop-i : goal.invariant-loop-i

@@ -1,8 +1,4 @@
-use mathlib.Core.Path.{◌≡◌}
-use Prim.Native.Nat.{◌+◌, ◌-◌, ◌≤◌}
 use native.Mathlib.Omega.{arith}
-use lib.ListN.{length, drop}
-use Rattle.sheet.specs.InnerKept.{kept_from}
 use Rattle.sheet_write.proofs.Kepts.{count_turn, count-end}
 use Rattle.sheet_write.proofs.kept.Goals as goal
 

@@ -2,10 +2,8 @@
 -- that are left fall.
 use mathlib.Core.Path.{◌≡◌}
 use Prim.Native.Nat.{◌+◌, ◌-◌, ◌≤◌}
-use native.Mathlib.Omega.{arith}
 use lib.ListN.{length, drop}
 use Rattle.sheet.specs.InnerKept.{kept_from}
-use Rattle.sheet_write.proofs.Kepts.{count_turn, count-end}
 use Rattle.sheet_write.proofs.kept.Given as goal
 
 abbrev pub invariant-loop-i : goal.invariant-loop-i

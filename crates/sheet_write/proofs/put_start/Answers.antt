@@ -5,7 +5,6 @@ use Prim.Native.Nat.{ℕ, ◌*◌}
 use native.Mathlib.Omega.{arith}
 use lib.ListN.{length, get_or}
 use lib.Seq.{sets}
-use borrow.Author.Tests.{not-true, not-false}
 use Rattle.byte_words.specs.Bytes.{bytes_all}
 use Rattle.byte_words.proofs.Words.{put_one, put-none}
 use Rattle.sheet_write.proofs.Kepts.{at_some, at_none}

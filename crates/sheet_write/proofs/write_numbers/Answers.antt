@@ -1,10 +1,9 @@
-use mathlib.Core.Path.{◌≡◌, sym, ap, ◌∙◌}
-use lib.Seq.{sets, length-sets}
-use Prim.Native.Nat.{◌+◌, ◌-◌, ◌*◌, ◌≤◌}
+use mathlib.Core.Path.{sym, ap, ◌∙◌}
+use lib.Seq.{length-sets}
+use Prim.Native.Nat.{◌+◌, ◌*◌}
 use native.Mathlib.Omega.{arith}
 use native.Mathlib.Nat.{add-zero}
-use lib.ListN.{length, drop}
-use Rattle.byte_words.specs.Bytes.{bytes_all}
+use lib.ListN.{length}
 use Rattle.sheet_write.proofs.Kepts.{number_turn, number_end}
 use Rattle.sheet_write.proofs.write_numbers.Goals as goal
 

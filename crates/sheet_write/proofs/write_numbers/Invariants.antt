@@ -1,13 +1,10 @@
 -- `write_numbers` meets its contract. Storing the numbers from the i-th on from here leaves what storing all leaves;
 -- the numbers that are left fall.
-use mathlib.Core.Path.{◌≡◌, sym, ap, ◌∙◌}
-use lib.Seq.{sets, length-sets}
+use mathlib.Core.Path.{◌≡◌}
+use lib.Seq.{sets}
 use Prim.Native.Nat.{◌+◌, ◌-◌, ◌*◌, ◌≤◌}
-use native.Mathlib.Omega.{arith}
-use native.Mathlib.Nat.{add-zero}
 use lib.ListN.{length, drop}
 use Rattle.byte_words.specs.Bytes.{bytes_all}
-use Rattle.sheet_write.proofs.Kepts.{number_turn, number_end}
 use Rattle.sheet_write.proofs.write_numbers.Given as goal
 
 abbrev pub invariant-loop-i : goal.invariant-loop-i

@@ -1,12 +1,9 @@
-use mathlib.Core.Path.{◌≡◌, refl, sym, ap, ◌∙◌}
-use lib.Seq.{sets, length-sets}
+use mathlib.Core.Path.{refl, sym, ap, ◌∙◌}
+use lib.Seq.{length-sets}
 use Rattle.sheet_write.proofs.Kepts.{place_turn, count-end, put-turn, put-end}
-use Prim.Native.Nat.{◌+◌, ◌-◌, ◌*◌, ◌≤◌}
+use Prim.Native.Nat.{◌*◌}
 use native.Mathlib.Omega.{arith}
-use lib.ListN.{length, drop}
-use Rattle.byte_words.specs.Bytes.{bytes_all}
-use Rattle.sheet.specs.Sheets.{header_words, numbers_from}
-use Rattle.sheet.specs.InnerKept.{kept_from}
+use lib.ListN.{length}
 use Rattle.sheet_write.proofs.write_starts.Goals as goal
 
 pub loop-i-init : goal.loop-i-init

@@ -1,10 +1,8 @@
 -- `write_starts` meets its contract. Storing the starts of the strokes with points from the i-th on from here leaves
 -- what storing all leaves, and ends at the place after all; the strokes that are left fall.
-use mathlib.Core.Path.{◌≡◌, refl, sym, ap, ◌∙◌}
-use lib.Seq.{sets, length-sets}
-use Rattle.sheet_write.proofs.Kepts.{place_turn, count-end, put-turn, put-end}
+use mathlib.Core.Path.{◌≡◌}
+use lib.Seq.{sets}
 use Prim.Native.Nat.{◌+◌, ◌-◌, ◌*◌, ◌≤◌}
-use native.Mathlib.Omega.{arith}
 use lib.ListN.{length, drop}
 use Rattle.byte_words.specs.Bytes.{bytes_all}
 use Rattle.sheet.specs.Sheets.{header_words, numbers_from}

@@ -1,9 +1,8 @@
-use mathlib.Core.Path.{◌≡◌, refl, sym, ap, ◌∙◌}
-use Prim.Native.Nat.{◌-◌}
+use mathlib.Core.Path.{refl, sym, ap, ◌∙◌}
 use native.Mathlib.Omega.{arith}
 use lib.ListN.{length}
-use lib.Seq.{sets, length-sets}
-use Rattle.stl.specs.Files.{header_bytes, zeros}
+use lib.Seq.{length-sets}
+use Rattle.stl.specs.Files.{header_bytes}
 use Rattle.stl.proofs.Puts.{zeros-turn, zeros-end}
 use Rattle.stl.proofs.clear_header.Goals as goal
 

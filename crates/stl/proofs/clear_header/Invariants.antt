@@ -1,11 +1,8 @@
 -- `clear_header` meets its contract. Storing the zeros that are left leaves what storing all leaves; those that are left fall.
-use mathlib.Core.Path.{◌≡◌, refl, sym, ap, ◌∙◌}
+use mathlib.Core.Path.{◌≡◌}
 use Prim.Native.Nat.{◌-◌}
-use native.Mathlib.Omega.{arith}
-use lib.ListN.{length}
-use lib.Seq.{sets, length-sets}
+use lib.Seq.{sets}
 use Rattle.stl.specs.Files.{header_bytes, zeros}
-use Rattle.stl.proofs.Puts.{zeros-turn, zeros-end}
 use Rattle.stl.proofs.clear_header.Given as goal
 
 abbrev pub invariant-loop-i : goal.invariant-loop-i

@@ -1,7 +1,6 @@
 -- `corner_good` meets its contract.
 use mathlib.Core.Path.{◌∙◌}
 use native.Mathlib.Omega.{arith}
-use borrow.Author.Tests.{not-true, not-false}
 use Rattle.stl.proofs.Corners.{place}
 use Rattle.stl.proofs.Sizes.{first, told, no_first, no_second, by_third, good-past}
 use Rattle.stl.proofs.corner_good.Goals as goal

@@ -1,9 +1,5 @@
-use borrow.Author.Tests.{not-true, not-false}
-use mathlib.Core.Path.{◌≡◌, refl, sym, ◌∙◌}
-use Prim.Native.Nat.{◌-◌, ◌≤◌}
+use mathlib.Core.Path.{refl, sym, ◌∙◌}
 use native.Mathlib.Omega.{arith}
-use lib.ListN.{length, drop}
-use Rattle.stl.specs.Files.{all_single}
 use Rattle.stl_write.proofs.Corners.{number_wide, number_held, number_end}
 use Rattle.stl_write.proofs.all_exact.Goals as goal
 

@@ -1,12 +1,9 @@
 -- `all_exact` meets its contract. What there is to say of the coordinates from the i-th on is what there is to say of
 -- all; the coordinates that are left fall.
-use borrow.Author.Tests.{not-true, not-false}
-use mathlib.Core.Path.{◌≡◌, refl, sym, ◌∙◌}
+use mathlib.Core.Path.{◌≡◌}
 use Prim.Native.Nat.{◌-◌, ◌≤◌}
-use native.Mathlib.Omega.{arith}
 use lib.ListN.{length, drop}
 use Rattle.stl.specs.Files.{all_single}
-use Rattle.stl_write.proofs.Corners.{number_wide, number_held, number_end}
 use Rattle.stl_write.proofs.all_exact.Given as goal
 
 abbrev pub invariant-loop-i : goal.invariant-loop-i

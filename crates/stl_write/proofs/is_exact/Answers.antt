@@ -1,6 +1,5 @@
 -- `is_exact` meets its contract: each test is that of the definition.
 use mathlib.Core.Path.{sym, ◌∙◌}
-use borrow.Author.Tests.{not-true, not-false}
 use Rattle.stl_write.proofs.is_exact.Goals as goal
 
 pub returns-then-not-is_single : goal.returns-then-not-is_single

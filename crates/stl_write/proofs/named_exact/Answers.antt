@@ -1,11 +1,8 @@
-use borrow.Author.Tests.{not-true, not-false}
-use mathlib.Core.Path.{◌≡◌, refl, sym, ◌∙◌}
-use Prim.Native.Nat.{◌-◌, ◌/◌, ◌≤◌}
+use mathlib.Core.Path.{refl, sym, ◌∙◌}
+use Prim.Native.Nat.{◌/◌}
 use native.Mathlib.Omega.{arith}
-use lib.ListN.{length, drop}
-use Rattle.mesh.specs.Meshes.{gathered}
+use lib.ListN.{length}
 use Rattle.mesh.proofs.Tests.{index_below}
-use Rattle.stl.specs.Files.{all_single}
 use Rattle.stl_write.proofs.Corners.{corner_wide, corner_held, corner_end}
 use Rattle.stl_write.proofs.named_exact.Goals as goal
 

@@ -1,14 +1,10 @@
 -- `named_exact` meets its contract. What there is to say of the corners from the k-th on is what there is to say of
 -- all; the corners that are left fall.
-use borrow.Author.Tests.{not-true, not-false}
-use mathlib.Core.Path.{◌≡◌, refl, sym, ◌∙◌}
-use Prim.Native.Nat.{◌-◌, ◌/◌, ◌≤◌}
-use native.Mathlib.Omega.{arith}
+use mathlib.Core.Path.{◌≡◌}
+use Prim.Native.Nat.{◌-◌, ◌≤◌}
 use lib.ListN.{length, drop}
 use Rattle.mesh.specs.Meshes.{gathered}
-use Rattle.mesh.proofs.Tests.{index_below}
 use Rattle.stl.specs.Files.{all_single}
-use Rattle.stl_write.proofs.Corners.{corner_wide, corner_held, corner_end}
 use Rattle.stl_write.proofs.named_exact.Given as goal
 
 abbrev pub invariant-loop-k : goal.invariant-loop-k

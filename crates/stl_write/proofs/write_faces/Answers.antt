@@ -1,10 +1,10 @@
 use mathlib.Core.Path.{◌≡◌, sym, ap, ◌∙◌}
-use Prim.Native.Nat.{◌-◌, ◌*◌, ◌≤◌}
+use Prim.Native.Nat.{◌-◌}
 use native.Mathlib.Omega.{arith}
-use lib.ListN.{length, drop}
-use lib.Seq.{sets, length-sets}
+use lib.ListN.{length}
+use lib.Seq.{length-sets}
 use Rattle.mesh.specs.Meshes.{gathered}
-use Rattle.stl.specs.Files.{face_numbers, size_of, faces_of}
+use Rattle.stl.specs.Files.{size_of}
 use Rattle.stl.proofs.Written.{face-end}
 use Rattle.stl_write.proofs.Calls.{put-turn}
 use Rattle.stl_write.proofs.write_faces.Goals as goal

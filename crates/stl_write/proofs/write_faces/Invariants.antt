@@ -1,14 +1,11 @@
 -- `write_faces` meets its contract. Storing the faces from the f-th on from here leaves what storing all leaves; the
 -- faces that are left fall.
-use mathlib.Core.Path.{◌≡◌, sym, ap, ◌∙◌}
+use mathlib.Core.Path.{◌≡◌}
 use Prim.Native.Nat.{◌-◌, ◌*◌, ◌≤◌}
-use native.Mathlib.Omega.{arith}
-use lib.ListN.{length, drop}
-use lib.Seq.{sets, length-sets}
+use lib.ListN.{drop}
+use lib.Seq.{sets}
 use Rattle.mesh.specs.Meshes.{gathered}
 use Rattle.stl.specs.Files.{face_numbers, size_of, faces_of}
-use Rattle.stl.proofs.Written.{face-end}
-use Rattle.stl_write.proofs.Calls.{put-turn}
 use Rattle.stl_write.proofs.write_faces.Given as goal
 
 abbrev pub invariant-loop-f : goal.invariant-loop-f

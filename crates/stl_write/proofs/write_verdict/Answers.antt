@@ -1,6 +1,5 @@
 -- `write_verdict` meets its contract: each test is that of the definition.
 use mathlib.Core.Path.{sym, ◌∙◌}
-use borrow.Author.Tests.{not-true, not-false}
 use Rattle.refusal.specs.Refusals.{unless}
 use Rattle.stl_write.specs.Call.{verdict_of}
 use Rattle.mesh.proofs.Tests.{few_faces}

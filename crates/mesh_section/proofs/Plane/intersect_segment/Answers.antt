@@ -1,5 +1,4 @@
 -- `intersect_segment` meets its contract: a law for each branch.
-use borrow.Author.Tests.{not-true, not-false}
 use mathlib.Core.Path.{◌≡◌, sym, ◌∙◌}
 use Rattle.vector.specs.Vectors.{sub_of, dot_of}
 use Rattle.mesh_section.specs.Section.{rise_of}

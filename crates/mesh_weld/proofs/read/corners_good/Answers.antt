@@ -1,10 +1,7 @@
-use mathlib.Core.Path.{◌≡◌, sym, ap, ◌∙◌}
+use mathlib.Core.Path.{sym, ap, ◌∙◌}
 use mathlib.Core.Bool.{Bool, ◌&&◌}
-use Prim.Native.Nat.{ℕ, zero-le, ◌+◌, ◌-◌, ◌≤◌}
+use Prim.Native.Nat.{zero-le, ◌+◌}
 use native.Mathlib.Omega.{arith}
-use borrow.Author.Tests.{not-true, not-false}
-use Rattle.path.specs.Tests.{coordinates_good}
-use Rattle.stl.specs.Files.{coordinates_in}
 use Rattle.mesh_weld.proofs.Files.{good_from, good_turn, good-end, good-all}
 use Rattle.mesh_weld.proofs.read.corners_good.Goals as goal
 

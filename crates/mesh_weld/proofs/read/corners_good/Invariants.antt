@@ -1,12 +1,9 @@
 -- `corners_good` meets its contract. Whether the corners from i on are good is whether all are; the corners that are left fall.
-use mathlib.Core.Path.{◌≡◌, sym, ap, ◌∙◌}
-use mathlib.Core.Bool.{Bool, ◌&&◌}
-use Prim.Native.Nat.{ℕ, zero-le, ◌+◌, ◌-◌, ◌≤◌}
-use native.Mathlib.Omega.{arith}
-use borrow.Author.Tests.{not-true, not-false}
+use mathlib.Core.Path.{◌≡◌}
+use Prim.Native.Nat.{◌-◌, ◌≤◌}
 use Rattle.path.specs.Tests.{coordinates_good}
 use Rattle.stl.specs.Files.{coordinates_in}
-use Rattle.mesh_weld.proofs.Files.{good_from, good_turn, good-end, good-all}
+use Rattle.mesh_weld.proofs.Files.{good_from}
 use Rattle.mesh_weld.proofs.read.corners_good.Given as goal
 
 abbrev pub invariant-loop-i : goal.invariant-loop-i

@@ -1,7 +1,6 @@
 -- `read_verdict` meets its contract: each test is that of the definition.
-use mathlib.Core.Path.{sym, ap, ◌∙◌}
-use native.Mathlib.Omega.{arith}
-use borrow.Author.Tests.{le-leb, lt-leb, not-true, not-false}
+use mathlib.Core.Path.{sym, ◌∙◌}
+use borrow.Author.Tests.{le-leb, lt-leb}
 use Rattle.refusal.specs.Refusals.{unless}
 use Rattle.mesh_weld.specs.Read.{read_verdict}
 use Rattle.mesh_weld.proofs.Files.{read_by}

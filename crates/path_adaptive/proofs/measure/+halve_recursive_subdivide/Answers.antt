@@ -1,11 +1,8 @@
 -- `recursive_subdivide` and `halve`, which call each other, meet their contracts: what a span takes is what its halves take.
-use Rattle.path_adaptive.specs.Walk.{followed_by, halved, walk}
 use Rattle.path_adaptive.proofs.Walks.{walk_ends, walk-stuck, walk-half}
 use Rattle.path_adaptive.proofs.Meets.{meets_stop, meets_one, meets_stuck, meets_halves}
 use Rattle.path_adaptive.specs.InnerSpan.{view_at, shown_at}
-use native.Mathlib.Omega.{arith}
-use mathlib.Core.Path.{◌≡◌, sym, ◌∙◌}
-use Prim.Native.Nat.{ℕ, ◌+◌, ◌-◌, ◌*◌, ◌<◌}
+use mathlib.Core.Path.{sym, ◌∙◌}
 use Rattle.path_adaptive.proofs.measure.+halve_recursive_subdivide.Goals as goal
 
 pub halve-returns-then-depth-eq0 : goal.halve-returns-then-depth-eq0

@@ -7,9 +7,9 @@ use Rattle.path_adaptive.proofs.Tallies.{spent-none, spent-join}
 use Rattle.path_adaptive.specs.Tally.{spent}
 use Rattle.path_adaptive.specs.Walk.{most_halvings, shown_of, walk, walk_from}
 use Rattle.path_adaptive.specs.InnerMeasure.{tally_of}
-use Prim.Native.Nat.{ℕ, ◌+◌, ◌-◌}
+use Prim.Native.Nat.{◌+◌, ◌-◌}
 use native.Mathlib.Omega.{arith}
-use mathlib.Core.Path.{◌≡◌, refl, sym, ap, ◌∙◌}
+use mathlib.Core.Path.{refl, sym, ap, ◌∙◌}
 use Rattle.path_adaptive.proofs.measure.measure_spans.Goals as goal
 
 pub loop-j-init : goal.loop-j-init

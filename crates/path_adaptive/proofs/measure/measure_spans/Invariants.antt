@@ -1,17 +1,11 @@
 -- `measure_spans` meets its contract. What the spans from place j on meet from here is what all spans meet from the
 -- start; the spans that are left fall.
-use borrow.Author.Rules.{rules}
-use Rattle.path_adaptive.specs.declared.Tally.{Tally}
-use Rattle.path_adaptive.specs.declared.View.{View}
 use Rattle.path.specs.Strokes.{point_at, gather}
-use Rattle.path_adaptive.proofs.Walks.{from_more, from-none}
-use Rattle.path_adaptive.proofs.Tallies.{spent-none, spent-join}
 use Rattle.path_adaptive.specs.Tally.{spent}
-use Rattle.path_adaptive.specs.Walk.{most_halvings, shown_of, walk, walk_from}
+use Rattle.path_adaptive.specs.Walk.{walk_from}
 use Rattle.path_adaptive.specs.InnerMeasure.{tally_of}
-use Prim.Native.Nat.{ℕ, ◌+◌, ◌-◌}
-use native.Mathlib.Omega.{arith}
-use mathlib.Core.Path.{◌≡◌, refl, sym, ap, ◌∙◌}
+use Prim.Native.Nat.{ℕ, ◌-◌}
+use mathlib.Core.Path.{◌≡◌}
 use Rattle.path_adaptive.proofs.measure.measure_spans.Given as goal
 
 abbrev pub invariant-loop-j : goal.invariant-loop-j

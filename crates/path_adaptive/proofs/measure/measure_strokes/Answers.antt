@@ -1,13 +1,9 @@
 use borrow.Author.Rules.{rules}
 use Rattle.path_adaptive.proofs.Tallies.{walks_more, walks_none, more-spent, more-less}
 use Rattle.path_adaptive.specs.Tally.{spent_all}
-use Rattle.path_adaptive.specs.Walk.{walks_of}
-use Rattle.path_adaptive.specs.InnerMeasure.{points_of}
-use Rattle.refusal.specs.Limits.{most_points}
-use lib.ListN.{length, drop}
-use Prim.Native.Nat.{◌-◌, ◌≤◌, zero-le}
+use Prim.Native.Nat.{zero-le}
 use native.Mathlib.Omega.{arith}
-use mathlib.Core.Path.{◌≡◌, refl, sym, ap, ◌∙◌}
+use mathlib.Core.Path.{refl, sym, ap, ◌∙◌}
 use Rattle.path_adaptive.proofs.measure.measure_strokes.Goals as goal
 
 pub loop-j-init : goal.loop-j-init

@@ -1,15 +1,12 @@
 -- `measure_strokes` meets its contract. What the strokes from the j-th on meet from here is what all meet from the
 -- start, and the points left are few; the strokes that are left fall.
-use borrow.Author.Rules.{rules}
-use Rattle.path_adaptive.proofs.Tallies.{walks_more, walks_none, more-spent, more-less}
 use Rattle.path_adaptive.specs.Tally.{spent_all}
 use Rattle.path_adaptive.specs.Walk.{walks_of}
 use Rattle.path_adaptive.specs.InnerMeasure.{points_of}
 use Rattle.refusal.specs.Limits.{most_points}
 use lib.ListN.{length, drop}
-use Prim.Native.Nat.{◌-◌, ◌≤◌, zero-le}
-use native.Mathlib.Omega.{arith}
-use mathlib.Core.Path.{◌≡◌, refl, sym, ap, ◌∙◌}
+use Prim.Native.Nat.{◌-◌, ◌≤◌}
+use mathlib.Core.Path.{◌≡◌}
 use Rattle.path_adaptive.proofs.measure.measure_strokes.Given as goal
 
 abbrev pub invariant-loop-j : goal.invariant-loop-j

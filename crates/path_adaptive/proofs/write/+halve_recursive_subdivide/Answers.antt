@@ -1,13 +1,12 @@
 -- `recursive_subdivide` and `halve`, which call each other, meet their contracts: what a span writes is what its halves write.
 use lib.ListN.{length}
-use Rattle.path_adaptive.specs.Walk.{Walk, one_point, followed_by, halved, walk}
-use Rattle.path_adaptive.proofs.Walks.{Both, walk_ends, walk-stuck, walk-half, half-both}
+use Rattle.path_adaptive.specs.Walk.{Walk}
+use Rattle.path_adaptive.proofs.Walks.{walk_ends, walk-stuck, walk-half, half-both}
 use Rattle.path_adaptive.proofs.Inks.{inks_are, left-fits, right_fits, both_inks}
 use Rattle.path_adaptive.specs.InnerSpan.{view_at, shown_at}
 use native.Mathlib.Omega.{arith}
 use mathlib.Core.Bool.{true≢false}
-use mathlib.Core.Path.{◌≡◌, refl, sym, ap, ◌∙◌}
-use Prim.Native.Nat.{ℕ, ◌+◌, ◌-◌, ◌*◌, ◌<◌}
+use mathlib.Core.Path.{refl, sym, ap, ◌∙◌}
 use Rattle.path_adaptive.proofs.write.+halve_recursive_subdivide.Goals as goal
 
 pub halve-returns-then-depth-eq0 : goal.halve-returns-then-depth-eq0

@@ -2,14 +2,12 @@ use borrow.Author.Rules.{rules}
 use Rattle.path.specs.Strokes.{point_at, gather}
 use Rattle.path_adaptive.specs.Walk.{most_halvings, shown_of, walk, walk_from}
 use Rattle.path_adaptive.specs.InnerSpan.{view_at}
-use Rattle.path_adaptive.specs.InnerWrite.{Fits}
 use Rattle.path_adaptive.specs.declared.View.{View}
 use Rattle.path_adaptive.proofs.Walks.{Both, join-both, from_more, from-none}
-use Rattle.path_adaptive.proofs.Inks.{Rest, left-fits, right_fits, rest_turn, rest_end}
-use lib.ListN.{length}
+use Rattle.path_adaptive.proofs.Inks.{left-fits, right_fits, rest_turn, rest_end}
 use Prim.Native.Nat.{◌+◌, ◌-◌}
 use native.Mathlib.Omega.{arith}
-use mathlib.Core.Path.{◌≡◌, refl, sym, ap, ◌∙◌, subst}
+use mathlib.Core.Path.{refl, sym, ap, ◌∙◌, subst}
 use Rattle.path_adaptive.proofs.write.write_spans.Goals as goal
 
 pub loop-j-init : goal.loop-j-init

@@ -1,17 +1,12 @@
 -- `write_spans` meets its contract. The spans from place j on fit after the mark, and writing them from here leaves
 -- what writing all leaves; the spans that are left fall.
-use borrow.Author.Rules.{rules}
 use Rattle.path.specs.Strokes.{point_at, gather}
-use Rattle.path_adaptive.specs.Walk.{most_halvings, shown_of, walk, walk_from}
-use Rattle.path_adaptive.specs.InnerSpan.{view_at}
+use Rattle.path_adaptive.specs.Walk.{walk_from}
 use Rattle.path_adaptive.specs.InnerWrite.{Fits}
-use Rattle.path_adaptive.specs.declared.View.{View}
-use Rattle.path_adaptive.proofs.Walks.{Both, join-both, from_more, from-none}
-use Rattle.path_adaptive.proofs.Inks.{Rest, left-fits, right_fits, rest_turn, rest_end}
+use Rattle.path_adaptive.proofs.Inks.{Rest}
 use lib.ListN.{length}
-use Prim.Native.Nat.{◌+◌, ◌-◌}
-use native.Mathlib.Omega.{arith}
-use mathlib.Core.Path.{◌≡◌, refl, sym, ap, ◌∙◌, subst}
+use Prim.Native.Nat.{◌-◌}
+use mathlib.Core.Path.{◌≡◌}
 use Rattle.path_adaptive.proofs.write.write_spans.Given as goal
 
 abbrev pub invariant-loop-j : goal.invariant-loop-j

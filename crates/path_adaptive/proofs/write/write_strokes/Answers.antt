@@ -4,11 +4,9 @@ use Rattle.path.specs.InnerPushes.{put_points, out, push_all}
 use Rattle.path_adaptive.specs.declared.write.Made.{Made}
 use Rattle.path_adaptive.proofs.Tallies.{walks_more, walks_none, more-points, more-calm, more-halvings}
 use Rattle.path_adaptive.specs.Walk.{walks_of, adapted, halvings_of}
-use Rattle.path_adaptive.specs.InnerWrite.{Calm}
-use lib.ListN.{length, drop}
-use Prim.Native.Nat.{◌+◌, ◌-◌, ◌≤◌, zero-le}
+use Prim.Native.Nat.{zero-le}
 use native.Mathlib.Omega.{arith}
-use mathlib.Core.Path.{◌≡◌, refl, sym, ap, ◌∙◌}
+use mathlib.Core.Path.{refl, sym, ap, ◌∙◌}
 use Rattle.path_adaptive.proofs.write.write_strokes.Goals as goal
 
 pub loop-i-init : goal.loop-i-init

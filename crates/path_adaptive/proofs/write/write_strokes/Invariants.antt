@@ -1,16 +1,11 @@
 -- `write_strokes` meets its contract. Pushing the strokes from the i-th on from here leaves what pushing all leaves,
 -- none of them ends too deep, and their halvings and those made are all; the strokes that are left fall.
-use borrow.Author.Rules.{rules}
-use Rattle.path.proofs.Pushes.{push-turn, push-end, push-room, push-starts}
 use Rattle.path.specs.InnerPushes.{put_points, out, push_all}
-use Rattle.path_adaptive.specs.declared.write.Made.{Made}
-use Rattle.path_adaptive.proofs.Tallies.{walks_more, walks_none, more-points, more-calm, more-halvings}
 use Rattle.path_adaptive.specs.Walk.{walks_of, adapted, halvings_of}
 use Rattle.path_adaptive.specs.InnerWrite.{Calm}
 use lib.ListN.{length, drop}
-use Prim.Native.Nat.{◌+◌, ◌-◌, ◌≤◌, zero-le}
-use native.Mathlib.Omega.{arith}
-use mathlib.Core.Path.{◌≡◌, refl, sym, ap, ◌∙◌}
+use Prim.Native.Nat.{◌+◌, ◌-◌, ◌≤◌}
+use mathlib.Core.Path.{◌≡◌}
 use Rattle.path_adaptive.proofs.write.write_strokes.Given as goal
 
 abbrev pub invariant-loop-i : goal.invariant-loop-i

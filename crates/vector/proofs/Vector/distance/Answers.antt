@@ -1,5 +1,4 @@
 -- `distance` meets its contract.
-use Rattle.std.proofs.Common.{rules}
 use Rattle.vector.proofs.Vector.distance.Goals as goal
 
 pub returns : goal.returns

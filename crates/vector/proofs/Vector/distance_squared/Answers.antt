@@ -1,5 +1,4 @@
 -- `distance_squared` meets its contract.
-use Rattle.std.proofs.Common.{rules}
 use Rattle.vector.proofs.Vector.distance_squared.Goals as goal
 
 pub returns : goal.returns

@@ -1,5 +1,4 @@
 -- `normalize` meets its contract: the test is that of the definition.
-use Rattle.std.proofs.Common.{rules}
 use Rattle.vector.proofs.Vector.normalize.Goals as goal
 
 pub returns-then-d : goal.returns-then-d

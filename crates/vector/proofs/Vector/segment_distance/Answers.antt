@@ -1,5 +1,5 @@
 -- `segment_distance` meets its contract: a law for each branch.
-use Rattle.std.proofs.Common.{◌≡◌, ◌∙◌, rules}
+use Rattle.std.proofs.Common.{◌≡◌, ◌∙◌}
 use Rattle.vector.specs.Vectors.{sub_of, dot_of}
 use Rattle.vector.specs.Lengths.{distance_of, segment_distance_of}
 use Rattle.vector.proofs.Segments.{no_segment, before-first, after_last, between}

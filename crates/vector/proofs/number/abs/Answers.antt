@@ -1,7 +1,6 @@
 -- `abs` meets its contract: a law for each branch.
-use Rattle.std.proofs.Common.{◌≡◌, true, false, T, sym, refl, subst}
+use Rattle.std.proofs.Common.{T, sym, subst}
 use lib.Ieee.{binary64, fits, of_bits}
-use Rattle.vector.specs.Abs.{abs_of}
 use Rattle.vector.proofs.Abs.{below, zero_is, over}
 use Rattle.vector.proofs.number.abs.Goals as goal
 

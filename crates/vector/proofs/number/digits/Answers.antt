@@ -1,5 +1,5 @@
 -- `digits` meets its contract: half of the digits, the whole part of the root of n, and the other half by the division (`by_less`, `by_quotient`).
-use Rattle.std.proofs.Common.{◌-◌, ◌*◌, ◌/◌, ◌%◌, ◌^◌, arith, rules}
+use Rattle.std.proofs.Common.{◌-◌, ◌*◌, ◌/◌, ◌%◌, ◌^◌, arith}
 use Rattle.vector.proofs.Roots.{Sizes, sizes, by_less, by_quotient}
 use Rattle.vector.proofs.number.digits.Goals as goal
 

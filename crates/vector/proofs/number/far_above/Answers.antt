@@ -1,7 +1,7 @@
 -- `far_above` meets its contract: three patterns are enough for the roots to be apart.
-use Rattle.std.proofs.Common.{◌≡◌, ◌+◌, T, leb, sym, subst, arith, leb→le}
+use Rattle.std.proofs.Common.{◌+◌, T, sym, subst, arith, leb→le}
 use lib.Ieee.{binary64, fits, of_bits, div, to_bits}
-use Rattle.vector.proofs.Patterns.{Above, is_above, no_nan, in_patterns}
+use Rattle.vector.proofs.Patterns.{Above, no_nan, in_patterns}
 use Rattle.vector.proofs.RootGap.{roots_apart, above_zero, between, over}
 use Rattle.vector.proofs.number.far_above.Goals as goal
 

@@ -1,6 +1,6 @@
 -- `floor` meets its contract: the two tests say that the magnitude is below 2 ^ 53, so the value's whole part is an i64 and a float, and the third test says on which side of it the value lies.
-use Rattle.std.proofs.Common.{◌≡◌, T, ℤ, pos, ◌-ℤ◌, sym, refl, ap, ◌∙◌, subst, w64, SFits, to_z, of_z}
-use lib.Ieee.{binary64, of_bits, neg, in_float, to_signed, lt, of_int}
+use Rattle.std.proofs.Common.{◌≡◌, T, pos, ◌-ℤ◌, sym, ◌∙◌, w64, to_z, of_z}
+use lib.Ieee.{of_bits, neg, to_signed}
 use mir.ValLaws.{to_z-of_z}
 use Rattle.vector.proofs.Floors.{small, small_of, in_range, holds, one_less, cut-le, goes_down, stays, refuse_low, refuse_high}
 use Rattle.vector.proofs.number.floor.Goals as goal

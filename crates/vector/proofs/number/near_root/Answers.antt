@@ -1,5 +1,5 @@
 -- `near_root` meets its contract: what two steps give, and 2^52, is a number (`sum-no-nan`) with the wanted last digits (`close`).
-use Rattle.std.proofs.Common.{◌+◌, ◌/◌, ◌^◌, arith, le→leb, rules}
+use Rattle.std.proofs.Common.{◌+◌, ◌/◌, ◌^◌, arith, le→leb}
 use lib.Ieee.{in_float}
 use Rattle.vector.proofs.NearRoot.{sum-no-nan, close}
 use Rattle.vector.proofs.number.near_root.Goals as goal

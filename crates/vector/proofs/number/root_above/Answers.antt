@@ -1,6 +1,5 @@
 -- `root_above` meets its contract.
-use Rattle.std.proofs.Common.{◌≡◌, T, sym, subst, rules}
-use borrow.Author.Tests.{not-true, not-false}
+use Rattle.std.proofs.Common.{T, sym, subst}
 use lib.Ieee.{binary64, fits}
 use Rattle.vector.proofs.RootLaws.{sqrt_monotone}
 use Rattle.vector.proofs.number.root_above.Goals as goal

@@ -1,5 +1,5 @@
 -- `root_bits` meets its contract: next to 1.0 by its leaf; else the digits are those of the root, rounded, and the exponent is half.
-use Rattle.std.proofs.Common.{arith, rules}
+use Rattle.std.proofs.Common.{arith}
 use Rattle.vector.specs.Units.{at}
 use Rattle.vector.proofs.Roots.{by_parity, twice}
 use Rattle.vector.proofs.number.root_bits.Goals as goal

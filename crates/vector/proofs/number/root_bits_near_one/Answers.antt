@@ -1,5 +1,4 @@
 -- `root_bits_near_one` meets its contract: next to 1.0 the root is half as far from it.
-use Rattle.std.proofs.Common.{rules}
 use Rattle.vector.proofs.Roots.{near-one}
 use Rattle.vector.proofs.number.root_bits_near_one.Goals as goal
 

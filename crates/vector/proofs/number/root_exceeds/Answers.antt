@@ -1,5 +1,5 @@
 -- `root_exceeds` meets its contract.
-use Rattle.std.proofs.Common.{◌≡◌, ap, ◌∙◌, rules}
+use Rattle.std.proofs.Common.{ap, ◌∙◌}
 use lib.Ieee.{Float, lt}
 use Rattle.vector.proofs.RootLaws.{rooted}
 use Rattle.vector.proofs.number.root_exceeds.Goals as goal

@@ -1,5 +1,5 @@
 -- `rough` meets its contract: slope and height are those of the definition.
-use Rattle.std.proofs.Common.{refl, rules}
+use Rattle.std.proofs.Common.{refl}
 use Rattle.vector.proofs.number.rough.Goals as goal
 
 pub returns : goal.returns

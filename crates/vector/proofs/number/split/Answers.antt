@@ -1,5 +1,5 @@
 -- `split` meets its contract. A pattern with a leading digit has its digits; another's are moved up by the zeros before them (`raised`).
-use Rattle.std.proofs.Common.{◌%◌, ◌^◌, arith, rules}
+use Rattle.std.proofs.Common.{◌%◌, ◌^◌, arith}
 use lib.Count.{leading_le}
 use Rattle.vector.proofs.Roots.{normal, top, few_digits, raised}
 use Rattle.vector.proofs.number.split.Goals as goal

@@ -1,5 +1,5 @@
 -- `squares_well` meets its contract: its patterns are those of `root_of_square`.
-use Rattle.std.proofs.Common.{◌≡◌, ◌*◌, ◌^◌, T, sym, subst, ltb→lt}
+use Rattle.std.proofs.Common.{◌*◌, ◌^◌, T, sym, subst, ltb→lt}
 use lib.Ieee.{binary64, fits, of_bits, div, to_bits}
 use Rattle.vector.proofs.Patterns.{Above, is_above, no_nan}
 use Rattle.vector.proofs.RootSquare.{root_of_square}

@@ -1,5 +1,5 @@
 -- `whole_root` meets its contract: what Heron's steps give is settled by one comparison.
-use Rattle.std.proofs.Common.{le_of_lt, mul-le-mul, arith, rules}
+use Rattle.std.proofs.Common.{le_of_lt, mul-le-mul, arith}
 use Rattle.vector.proofs.Heron.{settled_above, settled}
 use Rattle.vector.proofs.number.whole_root.Goals as goal
 
