@@ -10,4 +10,4 @@ pub returns-then-x-eq0 : goal.returns-then-x-eq0
 returns-then-x-eq0 c = wrote-joined c.args.points.now c.args.n c.args.x c.opposite-f.result.0 c.opposite-f.ensures (omega (arith, c.if-n-path_id.false, c.path_id.ensures)) c.if-x-eq0.true c.args.out.now _ c.args.at c.point_at.result c.point_at.ensures c.put_point.ensures
 
 pub returns : goal.returns
-returns c = wrote-whole c.args.points.now c.args.n c.args.x c.opposite-f.result.0 c.opposite-f.ensures (omega (arith, c.if-n-path_id.false, c.path_id.ensures)) c.if-x-eq0.false c.args.out.now _ _ c.args.at c.point_at-2.result c.point_at-3.result c.point_at-2.ensures c.put_point-2.ensures c.point_at-3.ensures c.put_point-3.ensures
+returns c = wrote-whole c.args.points.now c.args.n c.args.x c.opposite-f.result.0 c.opposite-f.ensures (omega (arith, c.if-n-path_id.false, c.path_id.ensures)) (omega arith) c.args.out.now _ _ c.args.at c.point_at-2.result c.point_at-3.result c.point_at-2.ensures c.put_point-2.ensures c.point_at-3.ensures c.put_point-3.ensures
