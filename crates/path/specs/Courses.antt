@@ -9,6 +9,6 @@ pub record Course (B : Type 0) : Type 0 where
 abbrev pub course : {B : Type 0} → List B → ℕ → Course B
 course b i = record { buf = b; at = i }
 
--- elements written from there on, stored as `put` says: `putPoints` for points, `sets` for numbers
+-- elements written from there on, stored as `put` says: `put_points` for points, `sets` for numbers
 unfoldable pub advanced : {A B : Type 0} → (List B → ℕ → List A → List B) → Course B → List A → Course B
 advanced put p xs = course (put p.buf p.at xs) (p.at + length xs)

@@ -1,4 +1,4 @@
--- `root_or_nan` meets its contract: in each branch the root as `rootOf` has it, read by `or_nan`.
+-- `root_or_nan` meets its contract: in each branch the root as `root_of` has it, read by `or_nan`.
 use Rattle.std.proofs.Common.{ap}
 use lib.Ieee.{of_bits, div}
 use Rattle.vector.specs.Lengths.{or_nan}
