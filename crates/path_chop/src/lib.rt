@@ -132,6 +132,7 @@ fn write_spans(
 }
 
 // 1 where the stroke from place a up to e leaves something, 0 where it vanishes.
+#[tactic(auto, unfolding(crate::specs::InnerCounts::leaves_some))]
 fn kept(a: usize, e: usize) -> usize
     ensures { result ≡ leaves_some (e - a) }
 {

@@ -29,9 +29,11 @@ fn narrow(field: u64, digits: u64) -> bool
     }
     let zeros = u64::trailing_zeros(0x10_0000_0000_0000 + digits) as u64;
     if zeros < 29 {
+        #[tactic(auto, using(crate::proofs::Held::too_long))]
         return false;
     }
     if field + zeros < 926 {
+        #[tactic(auto, using(crate::proofs::Held::too_fine))]
         return false;
     }
     field < 1151

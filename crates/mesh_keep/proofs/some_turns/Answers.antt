@@ -1,3 +1,4 @@
+use borrow.Author.Rules.{rules}
 use mathlib.Core.Path.{refl, sym, ◌∙◌}
 use native.Mathlib.Omega.{arith}
 use Rattle.mesh_keep.specs.Keep.{seen_in}
@@ -19,7 +20,7 @@ loop-i-smaller c = omega (arith, c.loop-i-test.true)
 pub loop-i-preserved : goal.loop-i-preserved
 loop-i-preserved c =
     let t = c.loop-i-test.true in
-    (omega (arith, t), turns_more (seen_in c.args.seen.now) c.args.tolerance c.args.f c.args.sides.now c.loop-i.i t _ c.turn.ensures c.if-turn-tolerance.false ∙ c.loop-i.invariant.1)
+    (omega (arith, t), turns_more (seen_in c.args.seen.now) c.args.tolerance c.args.f c.args.sides.now c.loop-i.i t _ c.turn.ensures (search rules) ∙ c.loop-i.invariant.1)
 
 pub returns : goal.returns
 returns c = sym (turns_none (seen_in c.args.seen.now) c.args.tolerance c.args.f c.args.sides.now c.loop-i.i c.loop-i-test.false) ∙ c.loop-i.invariant.1

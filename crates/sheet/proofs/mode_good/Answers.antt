@@ -1,4 +1,5 @@
 -- `mode_good` meets its contract.
+use native.Mathlib.Omega.{arith}
 use borrow.Author.Tests.{le-leb, lt-leb}
 use Rattle.sheet.specs.Sheets.{mode_good}
 use Rattle.sheet.proofs.mode_good.Goals as goal
@@ -9,4 +10,4 @@ returns-then-mode-gt3 c = rw (lt-leb _ _ c.if-mode-gt3.true)
 
 pub returns : goal.returns
 unfolding mode_good
-returns c = rw (le-leb _ _ c.if-mode-gt3.false)
+returns c = rw (le-leb c.args.mode 3 (omega arith))

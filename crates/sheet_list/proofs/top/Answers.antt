@@ -14,7 +14,7 @@ returns-then-x-p-lt10 c = top-end c.loop-i.i c.loop-i.p c.args.x _ c.loop-i-test
 
 pub overflow_mul-p : goal.overflow_mul-p
 overflow_mul-p c =
-    let t = ten-times c.loop-i.p c.args.x c.loop-i.invariant.1 c.if-x-p-lt10.false in
+    let t = ten-times c.loop-i.p c.args.x c.loop-i.invariant.1 (omega arith) in
     omega arith
 
 pub overflow_add-i : goal.overflow_add-i
@@ -24,7 +24,7 @@ pub loop-i-smaller : goal.loop-i-smaller
 loop-i-smaller c = omega arith
 
 pub loop-i-preserved : goal.loop-i-preserved
-loop-i-preserved c = (omega arith, omega arith, top-turn c.loop-i.i c.loop-i.p c.args.x _ c.loop-i-test.true c.if-x-p-lt10.false c.loop-i.invariant.2)
+loop-i-preserved c = (omega arith, omega arith, top-turn c.loop-i.i c.loop-i.p c.args.x _ c.loop-i-test.true (omega arith) c.loop-i.invariant.2)
 
 pub returns : goal.returns
 returns c = top-all c.loop-i.i c.loop-i.p c.args.x _ c.loop-i-test.false c.loop-i.invariant.2
