@@ -5,6 +5,7 @@ use Prim.Native.Nat.{ℕ, suc, ◌+◌, ◌*◌, ◌/◌, ◌%◌, ◌≤◌, �
 use native.Mathlib.Omega.{arith}
 use lib.ListN.{length, get_or, set, get_or-eq_default}
 use lib.Seq.{sets, set_out}
+use Rattle.std.specs.Int.{w32, to_le_bytes}
 use Rattle.byte_words.specs.Bytes.{bytes_of, bytes_all, word_from}
 
 -- the words that fit four bytes
@@ -29,6 +30,13 @@ four_set l i w =
     let b : i + 2 ≡ suc (suc i) = omega arith in
     let d : i + 3 ≡ suc (suc (suc i)) = omega arith in
     rw (a, b, d)
+
+-- the bytes as the library has them
+pub four_le : (l : List ℕ) (i w : ℕ) (b : List ℕ) → b ≡ to_le_bytes w32 w → set (set (set (set l i (get_or b 0 0)) (i + 1) (get_or b 1 0)) (i + 2) (get_or b 2 0)) (i + 3) (get_or b 3 0) ≡ sets l i (bytes_of w)
+four_le l i w b e =
+    let p : w / 65536 ≡ w / 256 / 256 = omega arith in
+    let q : w / 16777216 ≡ w / 256 / 256 / 256 = omega arith in
+    rw (e, p, q) (four_set l i w)
 
 pub set-none : (l : List ℕ) (i w : ℕ) → length l ≤ i → l ≡ sets l i (bytes_of w)
 set-none l i w h =

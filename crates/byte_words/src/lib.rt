@@ -19,7 +19,7 @@ fn byte_at(bytes: &[u8], i: usize) -> u8
 fn word_of(a: u8, b: u8, c: u8, d: u8) -> u32
     ensures { result ≡ a + 256 * b + 65536 * c + 16777216 * d }
 {
-    a as u32 + 256 * (b as u32) + 65536 * (c as u32) + 16777216 * (d as u32)
+    u32::from_le_bytes([a, b, c, d])
 }
 
 // The word from place i on where all four bytes are there: one load, since no byte is tested.
@@ -69,10 +69,11 @@ fn put_inside(out: &mut [u8], i: usize, w: u32)
     requires { i + 3 < length out.old }
     ensures { out.new ≡ sets out.old i (bytes_of w) }
 {
-    out[i] = (w % 256) as u8;
-    out[i + 1] = (w / 256 % 256) as u8;
-    out[i + 2] = (w / 256 / 256 % 256) as u8;
-    out[i + 3] = (w / 256 / 256 / 256 % 256) as u8;
+    let b = w.to_le_bytes();
+    out[i] = b[0];
+    out[i + 1] = b[1];
+    out[i + 2] = b[2];
+    out[i + 3] = b[3];
 }
 
 // Stores a word from place i on where bytes may lie past the end.
@@ -80,10 +81,11 @@ fn put_cut(out: &mut [u8], i: usize, w: u32)
     requires { i < length out.old }
     ensures { out.new ≡ sets out.old i (bytes_of w) }
 {
-    put_byte(out, i, (w % 256) as u8);
-    put_byte(out, i + 1, (w / 256 % 256) as u8);
-    put_byte(out, i + 2, (w / 256 / 256 % 256) as u8);
-    put_byte(out, i + 3, (w / 256 / 256 / 256 % 256) as u8);
+    let b = w.to_le_bytes();
+    put_byte(out, i, b[0]);
+    put_byte(out, i + 1, b[1]);
+    put_byte(out, i + 2, b[2]);
+    put_byte(out, i + 3, b[3]);
 }
 
 // Stores the four bytes of a word from place i on; past the end nothing.

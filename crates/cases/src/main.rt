@@ -1,90 +1,33 @@
 // The paper's measured cases that are run and not proved: a line each, the case and what it comes to.
 #![tactic(auto)]
 
-use mesh_section::{Plane, Sectioned};
-use mesh_weld::Welded;
-use path_adaptive::Adapted;
-use path_chop::Chopped;
-use path_simplify::Simplified;
-use refusal::MOST_FACES;
+use mesh_section::Plane;
+use refusal::{MOST_FACES, Refusal, number};
 use std::io;
 use vector::Vector;
 use vector::matrix::Matrix;
 
-fn text(rt: &impl Print, s: &[u8]) -> io::Result<()> {
-    rt.write_all(s)
-}
-
-fn decimal(rt: &impl Print, n: u64) -> io::Result<()> {
-    print!(rt; "{n}")
-}
-
-// A coordinate of a measured case, which is 0 or 1.
-fn coordinate(rt: &impl Print, x: f64) -> io::Result<()> {
-    if x == 0.0 {
-        text(rt, b" 0")?;
-    } else if x == 1.0 {
-        text(rt, b" 1")?;
-    } else {
-        text(rt, b" other")?;
-    }
-    Ok(())
-}
-
-// A case and the number it comes to.
-fn line(rt: &impl Print, what: &[u8], n: u64) -> io::Result<()> {
-    text(rt, what)?;
-    text(rt, b": ")?;
-    decimal(rt, n)?;
-    text(rt, b"\n")
-}
-
-fn section_status(r: Sectioned) -> u64 {
-    if let Sectioned::Refused(why) = r {
-        return refusal::number(why) as u64;
-    }
-    0
-}
-
-fn chop_status(r: Chopped) -> u64 {
-    if let Chopped::Refused(why) = r {
-        return refusal::number(why) as u64;
-    }
-    0
-}
-
-// An adaptive cut's status, and what it wrote.
-fn adapted_line(rt: &impl Print, what: &[u8], r: Adapted) -> io::Result<()> {
-    match r {
-        Adapted::Wrote {
-            points: p,
-            starts: _,
-            halvings: h,
-        } => {
-            line(rt, what, 0)?;
-            text(rt, b"its points and halvings: ")?;
-            decimal(rt, p as u64)?;
-            text(rt, b" ")?;
-            decimal(rt, h as u64)?;
-            text(rt, b"\n")?;
+// Coordinates of a measured case, each of which is 0 or 1.
+fn coordinates(rt: &impl Print, xs: &[f64]) -> io::Result<()> {
+    for x in xs {
+        if *x == 0.0 {
+            print!(rt; " 0")?;
+        } else if *x == 1.0 {
+            print!(rt; " 1")?;
+        } else {
+            print!(rt; " other")?;
         }
-        Adapted::Refused(why) => line(rt, what, refusal::number(why) as u64)?,
     }
-    Ok(())
+    println!(rt;)
 }
 
-fn simplify_status(r: Simplified) -> u64 {
-    if let Simplified::Refused(why) = r {
-        return refusal::number(why) as u64;
-    }
-    0
-}
-
-fn weld_status(r: Welded) -> u64 {
-    if let Welded::Refused(why) = r {
-        return refusal::number(why) as u64;
-    }
-    0
+// A case and the status that it comes to: 0, or the refusal's number.
+fn line<T: Drop>(rt: &impl Print, what: &str, r: Result<T, Refusal>) -> io::Result<()> {
+    let status = match r {
+        Ok(_) => 0,
+        Err(why) => number(why),
+    };
+    println!(rt; "{what}: {status}")
 }
 
 // The plane x = 1 through (1, 0, 0).
@@ -102,26 +45,16 @@ fn section_through_a_corner(rt: &impl Print) -> io::Result<()> {
     let mut points = [0.0; 6];
     let mut starts = [0u32; 1];
     let r = mesh_section::section(
-        &vertices[..],
-        &indices[..],
+        &vertices,
+        &indices,
         plane(),
         0.000000001,
-        &mut points[..],
-        &mut starts[..],
+        &mut points,
+        &mut starts,
     );
-    line(
-        rt,
-        b"plane x = 1 and a face with a corner on it, status",
-        section_status(r),
-    )?;
-    text(rt, b"its points:")?;
-    coordinate(rt, points[0])?;
-    coordinate(rt, points[1])?;
-    coordinate(rt, points[2])?;
-    coordinate(rt, points[3])?;
-    coordinate(rt, points[4])?;
-    coordinate(rt, points[5])?;
-    text(rt, b"\n")
+    line(rt, "plane x = 1 and a face with a corner on it, status", r)?;
+    print!(rt; "its points:")?;
+    coordinates(rt, &points)
 }
 
 // The most faces that a mesh may have.
@@ -130,15 +63,8 @@ fn section_of_the_most_faces(rt: &impl Print) -> io::Result<()> {
     let indices = [0u32; 3 * MOST_FACES];
     let mut points = [0.0; 6 * MOST_FACES];
     let mut starts = [0u32; MOST_FACES];
-    let r = mesh_section::section(
-        &vertices[..],
-        &indices[..],
-        plane(),
-        0.25,
-        &mut points[..],
-        &mut starts[..],
-    );
-    line(rt, b"section of 65,536 faces, status", section_status(r))
+    let r = mesh_section::section(&vertices, &indices, plane(), 0.25, &mut points, &mut starts);
+    line(rt, "section of 65,536 faces, status", r)
 }
 
 // One face more.
@@ -147,15 +73,8 @@ fn section_of_one_face_more(rt: &impl Print) -> io::Result<()> {
     let indices = [0u32; 3 * MOST_FACES + 3];
     let mut points = [0.0; 6];
     let mut starts = [0u32; 1];
-    let r = mesh_section::section(
-        &vertices[..],
-        &indices[..],
-        plane(),
-        0.25,
-        &mut points[..],
-        &mut starts[..],
-    );
-    line(rt, b"section of 65,537 faces, status", section_status(r))
+    let r = mesh_section::section(&vertices, &indices, plane(), 0.25, &mut points, &mut starts);
+    line(rt, "section of 65,537 faces, status", r)
 }
 
 // A weld of one face too many.
@@ -164,13 +83,8 @@ fn weld_of_one_face_more(rt: &impl Print) -> io::Result<()> {
     let mut scratch = [0u32; 12];
     let mut vertices = [0.0; 9];
     let mut indices = [0u32; 3];
-    let r = mesh_weld::weld(
-        &coords[..],
-        &mut scratch[..],
-        &mut vertices[..],
-        &mut indices[..],
-    );
-    line(rt, b"weld of 65,537 faces, status", weld_status(r))
+    let r = mesh_weld::weld(&coords, &mut scratch, &mut vertices, &mut indices);
+    line(rt, "weld of 65,537 faces, status", r)
 }
 
 // A chop by a step of 0.
@@ -179,14 +93,8 @@ fn chop_by_nothing(rt: &impl Print) -> io::Result<()> {
     let starts = [0u32; 1];
     let mut out_points = [0.0; 6];
     let mut out_starts = [0u32; 1];
-    let r = path_chop::chop(
-        &points[..],
-        &starts[..],
-        0.0,
-        &mut out_points[..],
-        &mut out_starts[..],
-    );
-    line(rt, b"chop by step 0, status", chop_status(r))
+    let r = path_chop::chop(&points, &starts, 0.0, &mut out_points, &mut out_starts);
+    line(rt, "chop by step 0, status", r)
 }
 
 // The matrix that shows a point where it is.
@@ -212,23 +120,27 @@ fn identity() -> Matrix {
 }
 
 // An adaptive cut of a line along x, on a screen of 10 by 10.
-fn adapt(rt: &impl Print, what: &[u8], from: f64, to: f64, step: f64) -> io::Result<()> {
+fn adapt(rt: &impl Print, what: &str, from: f64, to: f64, step: f64) -> io::Result<()> {
     let points = [from, 0.0, 0.0, to, 0.0, 0.0];
     let starts = [0u32; 1];
     let mut out_points = [0.0; 15];
     let mut out_starts = [0u32; 1];
     let r = path_adaptive::chop_adaptive(
-        &points[..],
-        &starts[..],
+        &points,
+        &starts,
         identity(),
         10.0,
         10.0,
         step,
         1e-9,
-        &mut out_points[..],
-        &mut out_starts[..],
+        &mut out_points,
+        &mut out_starts,
     );
-    adapted_line(rt, what, r)
+    line(rt, what, r)?;
+    if let Ok(a) = r {
+        println!(rt; "its points and halvings: {} {}", a.points, a.halvings)?;
+    }
+    Ok(())
 }
 
 // A stroke out and back at threshold 1: its two ends, which are equal.
@@ -237,27 +149,10 @@ fn simplify_out_and_back(rt: &impl Print) -> io::Result<()> {
     let starts = [0u32; 1];
     let mut out_points = [9.0; 9];
     let mut out_starts = [0u32; 1];
-    let r = path_simplify::simplify(
-        &points[..],
-        &starts[..],
-        1.0,
-        &mut out_points[..],
-        &mut out_starts[..],
-    );
-    line(
-        rt,
-        b"a stroke out and back at threshold 1, status",
-        simplify_status(r),
-    )?;
-    text(rt, b"its points, and what was there:")?;
-    coordinate(rt, out_points[0])?;
-    coordinate(rt, out_points[1])?;
-    coordinate(rt, out_points[2])?;
-    coordinate(rt, out_points[3])?;
-    coordinate(rt, out_points[4])?;
-    coordinate(rt, out_points[5])?;
-    coordinate(rt, out_points[6])?;
-    text(rt, b"\n")
+    let r = path_simplify::simplify(&points, &starts, 1.0, &mut out_points, &mut out_starts);
+    line(rt, "a stroke out and back at threshold 1, status", r)?;
+    print!(rt; "its points, and what was there:")?;
+    coordinates(rt, &out_points[..7])
 }
 
 // A threshold below 0.
@@ -266,14 +161,8 @@ fn simplify_below_nothing(rt: &impl Print) -> io::Result<()> {
     let starts = [0u32; 1];
     let mut out_points = [0.0; 9];
     let mut out_starts = [0u32; 1];
-    let r = path_simplify::simplify(
-        &points[..],
-        &starts[..],
-        -1.0,
-        &mut out_points[..],
-        &mut out_starts[..],
-    );
-    line(rt, b"simplify at threshold -1, status", simplify_status(r))
+    let r = path_simplify::simplify(&points, &starts, -1.0, &mut out_points, &mut out_starts);
+    line(rt, "simplify at threshold -1, status", r)
 }
 
 fn main(rt: HostRuntime) -> io::Result<()> {
@@ -284,21 +173,21 @@ fn main(rt: HostRuntime) -> io::Result<()> {
     chop_by_nothing(&rt)?;
     adapt(
         &rt,
-        b"adaptive cut of 0 to 4 by step 2.5, status",
+        "adaptive cut of 0 to 4 by step 2.5, status",
         0.0,
         4.0,
         2.5,
     )?;
     adapt(
         &rt,
-        b"adaptive cut of 0 to 4 by step 2, status",
+        "adaptive cut of 0 to 4 by step 2, status",
         0.0,
         4.0,
         2.0,
     )?;
     adapt(
         &rt,
-        b"adaptive cut of 11 to 15 by step 2, status",
+        "adaptive cut of 11 to 15 by step 2, status",
         11.0,
         15.0,
         2.0,

@@ -6,32 +6,21 @@
 
 ghost use Rattle.std.specs.Prelude.{◌≤◌};
 
-use mesh_contour::Contoured;
 use mesh_section::Plane;
-use refusal::MOST_FACES;
+use path::Place;
+use refusal::{MOST_FACES, Refusal, number};
 use std::io;
 use vector::Vector;
 
 const SMALL: f64 = 0.000000001;
 
-fn text(rt: &impl Print, s: &[u8]) -> io::Result<()> {
-    rt.write_all(s)
-}
-
-fn decimal(rt: &impl Print, n: usize) -> io::Result<()> {
-    print!(rt; "{n}")
-}
-
 // A coordinate by its pattern.
 fn pattern(rt: &impl Print, bits: u64) -> io::Result<()> {
     match bits {
-        0 => text(rt, b" 0")?,
-        0x3ff0_0000_0000_0000 => text(rt, b" 1")?,
-        0x401c_0000_0000_0000 => text(rt, b" 7")?,
-        _ => {
-            text(rt, b" ")?;
-            print!(rt; "{bits:016x}")?;
-        }
+        0 => print!(rt; " 0")?,
+        0x3ff0_0000_0000_0000 => print!(rt; " 1")?,
+        0x401c_0000_0000_0000 => print!(rt; " 7")?,
+        _ => print!(rt; " {bits:016x}")?,
     }
     Ok(())
 }
@@ -40,7 +29,7 @@ fn real(rt: &impl Print, x: f64) -> io::Result<()> {
     if x == x {
         return pattern(rt, f64::to_bits(x));
     }
-    text(rt, b" NaN")
+    print!(rt; " NaN")
 }
 
 fn reals(rt: &impl Print, list: &[f64]) -> io::Result<()> {
@@ -50,36 +39,19 @@ fn reals(rt: &impl Print, list: &[f64]) -> io::Result<()> {
     Ok(())
 }
 
-fn number(rt: &impl Print, x: u32) -> io::Result<()> {
-    text(rt, b" ")?;
-    decimal(rt, x as usize)
-}
-
 fn numbers(rt: &impl Print, list: &[u32]) -> io::Result<()> {
     for x in list {
-        number(rt, *x)?;
+        print!(rt; " {x}")?;
     }
     Ok(())
 }
 
 // The counts of an accepted call, or the refusal's number.
-fn answer(rt: &impl Print, r: Contoured) -> io::Result<()> {
+fn answer(rt: &impl Print, r: Result<Place, Refusal>) -> io::Result<()> {
     match r {
-        Contoured::Wrote {
-            points: p,
-            starts: s,
-        } => {
-            text(rt, b" wrote ")?;
-            decimal(rt, p)?;
-            text(rt, b" and ")?;
-            decimal(rt, s)?;
-        }
-        Contoured::Refused(why) => {
-            text(rt, b" refused ")?;
-            decimal(rt, refusal::number(why) as usize)?;
-        }
+        Ok(p) => print!(rt; " wrote {} and {}", p.points, p.starts),
+        Err(why) => print!(rt; " refused {}", number(why)),
     }
-    Ok(())
 }
 
 // All that a contour was lent.
@@ -90,21 +62,21 @@ fn lists(
     points: &[f64],
     starts: &[u32],
 ) -> io::Result<()> {
-    text(rt, b", points")?;
+    print!(rt; ", points")?;
     reals(rt, points)?;
-    text(rt, b", starts")?;
+    print!(rt; ", starts")?;
     numbers(rt, starts)?;
-    text(rt, b", words")?;
+    print!(rt; ", words")?;
     numbers(rt, scratch)?;
-    text(rt, b", numbers")?;
+    print!(rt; ", numbers")?;
     reals(rt, reckoned)?;
-    text(rt, b"\n")
+    println!(rt;)
 }
 
 // A contour with all that is lent to it.
 fn contour(
     rt: &impl Print,
-    what: &[u8],
+    what: &str,
     vertices: &[f64],
     indices: &[u32],
     plane: Plane,
@@ -114,7 +86,7 @@ fn contour(
     points: &mut [f64],
     starts: &mut [u32],
 ) -> io::Result<()> {
-    text(rt, what)?;
+    print!(rt; "{what}")?;
     answer(
         rt,
         mesh_contour::contour(
@@ -127,7 +99,7 @@ fn contour(
 // With so many words and numbers of scratch, and room for so many coordinates and starts.
 fn with(
     rt: &impl Print,
-    what: &[u8],
+    what: &str,
     vertices: &[f64],
     indices: &[u32],
     plane: Plane,
@@ -160,7 +132,7 @@ fn with(
 // With the scratch that n faces ask for, and room for a point and a start more than they do.
 fn enough(
     rt: &impl Print,
-    what: &[u8],
+    what: &str,
     vertices: &[f64],
     indices: &[u32],
     plane: Plane,
@@ -200,15 +172,15 @@ fn across_z(z: f64) -> Plane {
 }
 
 // The face (0,0,0) (1,1,0) (2,0,0), whose second corner lies on X.
-fn corner_on_it(rt: &impl Print, what: &[u8], indices: &[u32]) -> io::Result<()> {
+fn corner_on_it(rt: &impl Print, what: &str, indices: &[u32]) -> io::Result<()> {
     let vertices = [0.0, 0.0, 0.0, 1.0, 1.0, 0.0, 2.0, 0.0, 0.0];
-    enough(rt, what, &vertices[..], indices, across_x(), SMALL, 1)
+    enough(rt, what, &vertices, indices, across_x(), SMALL, 1)
 }
 
 // One face, cut by X.
 fn face(
     rt: &impl Print,
-    what: &[u8],
+    what: &str,
     a: Vector,
     b: Vector,
     c: Vector,
@@ -216,44 +188,29 @@ fn face(
 ) -> io::Result<()> {
     let vertices = [a.x, a.y, a.z, b.x, b.y, b.z, c.x, c.y, c.z];
     let indices = [0u32, 1, 2];
-    enough(
-        rt,
-        what,
-        &vertices[..],
-        &indices[..],
-        across_x(),
-        tolerance,
-        1,
-    )
+    enough(rt, what, &vertices, &indices, across_x(), tolerance, 1)
 }
 
 // A corner on the plane, a side on it, and corners as far from it as the tolerance.
 fn faces(rt: &impl Print) -> io::Result<()> {
     let forth = [0u32, 1, 2];
     let round = [2u32, 0, 1];
-    corner_on_it(rt, b"X, (0,0,0) (1,1,0) (2,0,0) as 0 1 2:", &forth[..])?;
-    corner_on_it(rt, b"as 2 0 1:", &round[..])?;
+    corner_on_it(rt, "X, (0,0,0) (1,1,0) (2,0,0) as 0 1 2:", &forth)?;
+    corner_on_it(rt, "as 2 0 1:", &round)?;
     let a = Vector::new(1.0, 0.0, 0.0);
     let b = Vector::new(1.0, 1.0, 0.0);
     face(
         rt,
-        b"X, (1,0,0) (1,1,0) with (2,0,0):",
+        "X, (1,0,0) (1,1,0) with (2,0,0):",
         a,
         b,
         Vector::new(2.0, 0.0, 0.0),
         SMALL,
     )?;
+    face(rt, "with (0,0,0):", a, b, Vector::new(0.0, 0.0, 0.0), SMALL)?;
     face(
         rt,
-        b"with (0,0,0):",
-        a,
-        b,
-        Vector::new(0.0, 0.0, 0.0),
-        SMALL,
-    )?;
-    face(
-        rt,
-        b"X, tolerance 0.5, (1.5,0,0) (0.5,0,0) (1.25,1,0):",
+        "X, tolerance 0.5, (1.5,0,0) (0.5,0,0) (1.25,1,0):",
         Vector::new(1.5, 0.0, 0.0),
         Vector::new(0.5, 0.0, 0.0),
         Vector::new(1.25, 1.0, 0.0),
@@ -268,25 +225,17 @@ fn doubled(rt: &impl Print) -> io::Result<()> {
     let dot = [0u32, 2, 2];
     enough(
         rt,
-        b"X, (0,0,0) (1,1,0) (2,0,0), faces 012 012:",
-        &vertices[..],
-        &twice[..],
+        "X, (0,0,0) (1,1,0) (2,0,0), faces 012 012:",
+        &vertices,
+        &twice,
         across_x(),
         SMALL,
         2,
     )?;
-    enough(
-        rt,
-        b"face 022:",
-        &vertices[..],
-        &dot[..],
-        across_x(),
-        SMALL,
-        1,
-    )?;
+    enough(rt, "face 022:", &vertices, &dot, across_x(), SMALL, 1)?;
     face(
         rt,
-        b"X, (1,0,0) with (2,0,0) (2,1,0):",
+        "X, (1,0,0) with (2,0,0) (2,1,0):",
         Vector::new(1.0, 0.0, 0.0),
         Vector::new(2.0, 0.0, 0.0),
         Vector::new(2.0, 1.0, 0.0),
@@ -302,9 +251,9 @@ fn signs_of_zero(rt: &impl Print) -> io::Result<()> {
     let indices = [0u32, 1, 2, 3, 4, 2];
     enough(
         rt,
-        b"Z, (-0,0,-0) (1,-0,0) (0,0,1) (0,0,0) (0,1,-0), faces 012 342:",
-        &vertices[..],
-        &indices[..],
+        "Z, (-0,0,-0) (1,-0,0) (0,0,1) (0,0,0) (0,1,-0), faces 012 342:",
+        &vertices,
+        &indices,
         across_z(0.0),
         SMALL,
         2,
@@ -317,9 +266,9 @@ fn tetrahedron(rt: &impl Print) -> io::Result<()> {
     let indices = [0u32, 2, 1, 0, 1, 3, 0, 3, 2, 1, 2, 3];
     enough(
         rt,
-        b"through (0,0,1), (0,0,0) (2,0,0) (0,2,0) (0,0,2), faces 021 013 032 123:",
-        &vertices[..],
-        &indices[..],
+        "through (0,0,1), (0,0,0) (2,0,0) (0,2,0) (0,0,2), faces 021 013 032 123:",
+        &vertices,
+        &indices,
         across_z(1.0),
         SMALL,
         4,
@@ -334,9 +283,9 @@ fn shared_edge(rt: &impl Print) -> io::Result<()> {
     let indices = [0u32, 1, 2, 1, 0, 3];
     enough(
         rt,
-        b"Z, (0,0,-0.1) (0.1,0,0.3) (0,1,-0.1) (0,-1,-0.1), faces 012 103:",
-        &vertices[..],
-        &indices[..],
+        "Z, (0,0,-0.1) (0.1,0,0.3) (0,1,-0.1) (0,-1,-0.1), faces 012 103:",
+        &vertices,
+        &indices,
         across_z(0.0),
         SMALL,
         2,
@@ -346,7 +295,7 @@ fn shared_edge(rt: &impl Print) -> io::Result<()> {
 // One face, with so much lent.
 fn lent(
     rt: &impl Print,
-    what: &[u8],
+    what: &str,
     words: usize,
     numbers: usize,
     room: usize,
@@ -359,8 +308,8 @@ fn lent(
     with(
         rt,
         what,
-        &vertices[..],
-        &indices[..],
+        &vertices,
+        &indices,
         across_x(),
         SMALL,
         words,
@@ -371,21 +320,10 @@ fn lent(
 }
 
 // A face of the vertices 0, 1 and `last`, where the third of three is (x,0,0), with nothing lent.
-fn bare(rt: &impl Print, what: &[u8], x: f64, last: u32) -> io::Result<()> {
+fn bare(rt: &impl Print, what: &str, x: f64, last: u32) -> io::Result<()> {
     let vertices = [0.0, 0.0, 0.0, 1.0, 1.0, 0.0, x, 0.0, 0.0];
     let indices = [0u32, 1, last];
-    with(
-        rt,
-        what,
-        &vertices[..],
-        &indices[..],
-        across_x(),
-        SMALL,
-        0,
-        0,
-        0,
-        0,
-    )
+    with(rt, what, &vertices, &indices, across_x(), SMALL, 0, 0, 0, 0)
 }
 
 // Indices that are no whole faces, and a face too many, with nothing lent.
@@ -394,8 +332,8 @@ fn other_counts(rt: &impl Print) -> io::Result<()> {
     let indices = [3u32; 3 * MOST_FACES + 3];
     with(
         rt,
-        b"four indices:",
-        &vertices[..],
+        "four indices:",
+        &vertices,
         &indices[..4],
         across_x(),
         SMALL,
@@ -406,9 +344,9 @@ fn other_counts(rt: &impl Print) -> io::Result<()> {
     )?;
     with(
         rt,
-        b"65,537 faces:",
-        &vertices[..],
-        &indices[..],
+        "65,537 faces:",
+        &vertices,
+        &indices,
         across_x(),
         SMALL,
         0,
@@ -421,13 +359,13 @@ fn other_counts(rt: &impl Print) -> io::Result<()> {
 // Each refusal, the earlier where two would do; and just enough of all, which is accepted.
 fn refusals(rt: &impl Print) -> io::Result<()> {
     other_counts(rt)?;
-    bare(rt, b"vertex 3 of three, one of which is NaN:", 0.0 / 0.0, 3)?;
-    bare(rt, b"NaN in a vertex:", 0.0 / 0.0, 2)?;
-    lent(rt, b"15 words, room for one point:", 15, 8, 3, 1)?;
-    lent(rt, b"7 numbers, no start:", 16, 7, 6, 0)?;
-    lent(rt, b"room for one point:", 16, 8, 3, 1)?;
-    lent(rt, b"room for no start:", 16, 8, 6, 0)?;
-    lent(rt, b"just enough of all:", 16, 8, 6, 1)
+    bare(rt, "vertex 3 of three, one of which is NaN:", 0.0 / 0.0, 3)?;
+    bare(rt, "NaN in a vertex:", 0.0 / 0.0, 2)?;
+    lent(rt, "15 words, room for one point:", 15, 8, 3, 1)?;
+    lent(rt, "7 numbers, no start:", 16, 7, 6, 0)?;
+    lent(rt, "room for one point:", 16, 8, 3, 1)?;
+    lent(rt, "room for no start:", 16, 8, 6, 0)?;
+    lent(rt, "just enough of all:", 16, 8, 6, 1)
 }
 
 fn main(rt: HostRuntime) -> io::Result<()> {

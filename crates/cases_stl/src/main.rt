@@ -10,7 +10,7 @@ use mesh_weld::Welded;
 use mesh_weld::read::read_stl;
 use refusal::{MOST_FACES, Refusal};
 use std::io;
-use stl_write::{StlWritten, write_stl};
+use stl_write::write_stl;
 
 // The number of pattern 7.
 const SEVEN: f64 = 3.5e-323;
@@ -30,33 +30,20 @@ const MOST: u32 = 0x4980_0000;
 
 const MINUS_MOST: u32 = 0xc980_0000;
 
-fn text(rt: &impl Print, s: &[u8]) -> io::Result<()> {
-    rt.write_all(s)
-}
-
-fn decimal(rt: &impl Print, n: usize) -> io::Result<()> {
-    print!(rt; "{n}")
-}
-
 fn digits(rt: &impl Print, pattern: u64) -> io::Result<()> {
-    text(rt, b" ")?;
-    print!(rt; "{pattern:x}")
-}
-
-fn number(rt: &impl Print, x: u32) -> io::Result<()> {
-    digits(rt, x as u64)
+    print!(rt; " {pattern:x}")
 }
 
 fn real(rt: &impl Print, x: f64) -> io::Result<()> {
     if x == x {
         return digits(rt, f64::to_bits(x));
     }
-    text(rt, b" NaN")
+    print!(rt; " NaN")
 }
 
 fn numbers(rt: &impl Print, list: &[u32]) -> io::Result<()> {
     for x in list {
-        number(rt, *x)?;
+        print!(rt; " {x:x}")?;
     }
     Ok(())
 }
@@ -71,9 +58,7 @@ fn reals(rt: &impl Print, list: &[f64]) -> io::Result<()> {
 // The word of a place, where it is another than the word before it.
 fn word(rt: &impl Print, at: usize, w: u32, before: u32) -> io::Result<()> {
     if w != before {
-        text(rt, b", from ")?;
-        decimal(rt, at)?;
-        number(rt, w)?;
+        print!(rt; ", from {at} {w:x}")?;
     }
     Ok(())
 }
@@ -90,48 +75,38 @@ fn words(rt: &impl Print, bytes: &[u8]) -> io::Result<()> {
 }
 
 fn refused(rt: &impl Print, why: Refusal) -> io::Result<()> {
-    text(rt, b" refused ")?;
-    decimal(rt, refusal::number(why) as usize)
+    print!(rt; " refused {}", refusal::number(why))
 }
 
 // ---- reading
 
-fn welded(rt: &impl Print, r: Welded) -> io::Result<()> {
+fn welded(rt: &impl Print, r: Result<Welded, Refusal>) -> io::Result<()> {
     match r {
-        Welded::Wrote {
-            vertices: v,
-            indices: m,
-        } => {
-            text(rt, b" wrote ")?;
-            decimal(rt, v)?;
-            text(rt, b" and ")?;
-            decimal(rt, m)?;
-        }
-        Welded::Refused(why) => refused(rt, why)?,
+        Ok(w) => print!(rt; " wrote {} and {}", w.vertices, w.indices),
+        Err(why) => refused(rt, why),
     }
-    Ok(())
 }
 
 // All that reading was lent.
 fn lists(rt: &impl Print, scratch: &[u32], vertices: &[f64], indices: &[u32]) -> io::Result<()> {
-    text(rt, b", vertices")?;
+    print!(rt; ", vertices")?;
     reals(rt, vertices)?;
-    text(rt, b", indices")?;
+    print!(rt; ", indices")?;
     numbers(rt, indices)?;
-    text(rt, b", scratch")?;
+    print!(rt; ", scratch")?;
     numbers(rt, scratch)?;
-    text(rt, b"\n")
+    println!(rt;)
 }
 
 fn read(
     rt: &impl Print,
-    what: &[u8],
+    what: &str,
     file: &[u8],
     scratch: &mut [u32],
     vertices: &mut [f64],
     indices: &mut [u32],
 ) -> io::Result<()> {
-    text(rt, what)?;
+    print!(rt; "{what}")?;
     welded(rt, read_stl(file, scratch, vertices, indices))?;
     lists(rt, scratch, vertices, indices)
 }
@@ -139,7 +114,7 @@ fn read(
 // Reads with ns words of scratch, and room for nv coordinates and ni indices.
 fn read_with(
     rt: &impl Print,
-    what: &[u8],
+    what: &str,
     file: &[u8],
     ns: usize,
     nv: usize,
@@ -179,7 +154,7 @@ fn put_file(file: &mut [u8], count: u32, a: u32, c: u32) {
 // Reads such a face, with so much lent.
 fn read_face(
     rt: &impl Print,
-    what: &[u8],
+    what: &str,
     a: u32,
     c: u32,
     ns: usize,
@@ -189,27 +164,27 @@ fn read_face(
     requires { (ns ≤ 13) × (nv ≤ 10) × (ni ≤ 4) }
 {
     let mut file = [0u8; 134];
-    put_file(&mut file[..], 1, a, c);
-    read_with(rt, what, &file[..], ns, nv, ni)
+    put_file(&mut file, 1, a, c);
+    read_with(rt, what, &file, ns, nv, ni)
 }
 
 // Reads the first n bytes of a file of one face that says it has so many.
-fn read_cut(rt: &impl Print, what: &[u8], count: u32, n: usize) -> io::Result<()>
+fn read_cut(rt: &impl Print, what: &str, count: u32, n: usize) -> io::Result<()>
     requires { n ≤ 135 }
 {
     let mut file = [0u8; 135];
-    put_file(&mut file[..], count, 0, TWO);
+    put_file(&mut file, count, 0, TWO);
     read_with(rt, what, &file[..n], 13, 10, 4)
 }
 
 // Reads a file of one face too many, where every number is NaN.
 fn read_one_face_more(rt: &impl Print) -> io::Result<()> {
     let mut file = [255u8; 50 * MOST_FACES + 134];
-    put_word_from(&mut file[..], 80, 65537);
+    put_word_from(&mut file, 80, 65537);
     read_with(
         rt,
-        b"65,537 faces in full, all NaN, room for one:",
-        &file[..],
+        "65,537 faces in full, all NaN, room for one:",
+        &file,
         13,
         10,
         4,
@@ -219,65 +194,53 @@ fn read_one_face_more(rt: &impl Print) -> io::Result<()> {
 fn read_faces(rt: &impl Print) -> io::Result<()> {
     read_face(
         rt,
-        b"\"solid ..\", normal NaN, 0xBEEF, x = 0, 1, -0:",
+        "\"solid ..\", normal NaN, 0xBEEF, x = 0, 1, -0:",
         0,
         MINUS_ZERO,
         13,
         10,
         4,
     )?;
-    read_face(rt, b"x = -0, 1, 0:", MINUS_ZERO, 0, 13, 10, 4)?;
-    read_face(rt, b"x = 2^-149, 1, 2:", 1, TWO, 13, 10, 4)?;
-    read_face(
-        rt,
-        b"x = 1048576, 1, -1048576:",
-        MOST,
-        MINUS_MOST,
-        13,
-        10,
-        4,
-    )?;
-    read_face(rt, b"1048576.125, 11 words:", MOST + 1, TWO, 11, 10, 4)?;
-    read_face(rt, b"NaN, 11 words:", NAN, TWO, 11, 10, 4)?;
-    read_face(rt, b"infinity, 11 words:", INFINITY, TWO, 11, 10, 4)?;
-    read_face(rt, b"11 words:", 0, TWO, 11, 10, 4)?;
-    read_face(rt, b"room for 8 coordinates:", 0, TWO, 12, 8, 4)?;
-    read_face(rt, b"room for 2 indices:", 0, TWO, 12, 9, 2)
+    read_face(rt, "x = -0, 1, 0:", MINUS_ZERO, 0, 13, 10, 4)?;
+    read_face(rt, "x = 2^-149, 1, 2:", 1, TWO, 13, 10, 4)?;
+    read_face(rt, "x = 1048576, 1, -1048576:", MOST, MINUS_MOST, 13, 10, 4)?;
+    read_face(rt, "1048576.125, 11 words:", MOST + 1, TWO, 11, 10, 4)?;
+    read_face(rt, "NaN, 11 words:", NAN, TWO, 11, 10, 4)?;
+    read_face(rt, "infinity, 11 words:", INFINITY, TWO, 11, 10, 4)?;
+    read_face(rt, "11 words:", 0, TWO, 11, 10, 4)?;
+    read_face(rt, "room for 8 coordinates:", 0, TWO, 12, 8, 4)?;
+    read_face(rt, "room for 2 indices:", 0, TWO, 12, 9, 2)
 }
 
 fn read_cuts(rt: &impl Print) -> io::Result<()> {
-    read_cut(rt, b"83 bytes:", 1, 83)?;
-    read_cut(rt, b"one face, a byte more:", 1, 135)?;
-    read_cut(rt, b"one face, a byte less:", 1, 133)?;
-    read_cut(rt, b"no bytes:", 1, 0)?;
-    read_cut(rt, b"count 65,537 in 134 bytes:", 65537, 134)?;
-    read_cut(rt, b"count 85,899,346 in 88 bytes:", 85899346, 88)
+    read_cut(rt, "83 bytes:", 1, 83)?;
+    read_cut(rt, "one face, a byte more:", 1, 135)?;
+    read_cut(rt, "one face, a byte less:", 1, 133)?;
+    read_cut(rt, "no bytes:", 1, 0)?;
+    read_cut(rt, "count 65,537 in 134 bytes:", 65537, 134)?;
+    read_cut(rt, "count 85,899,346 in 88 bytes:", 85899346, 88)
 }
 
 // ---- writing
 
-fn written(rt: &impl Print, r: StlWritten) -> io::Result<()> {
+fn written(rt: &impl Print, r: Result<usize, Refusal>) -> io::Result<()> {
     match r {
-        StlWritten::Wrote { bytes: n } => {
-            text(rt, b" wrote ")?;
-            decimal(rt, n)?;
-        }
-        StlWritten::Refused(why) => refused(rt, why)?,
+        Ok(bytes) => print!(rt; " wrote {bytes}"),
+        Err(why) => refused(rt, why),
     }
-    Ok(())
 }
 
 fn write(
     rt: &impl Print,
-    what: &[u8],
+    what: &str,
     vertices: &[f64],
     indices: &[u32],
     out: &mut [u8],
 ) -> io::Result<()> {
-    text(rt, what)?;
+    print!(rt; "{what}")?;
     written(rt, write_stl(vertices, indices, out))?;
     words(rt, out)?;
-    text(rt, b"\n")
+    println!(rt;)
 }
 
 // Writes three vertices that are one face, and reads that again.
@@ -297,12 +260,12 @@ fn write_and_read(rt: &impl Print) -> io::Result<()> {
     let mut out = [7u8; 136];
     write(
         rt,
-        b"writing (-0,0.5,2^-149) (1048576,0,0) (0,1,0):",
-        &vertices[..],
-        &indices[..],
-        &mut out[..],
+        "writing (-0,0.5,2^-149) (1048576,0,0) (0,1,0):",
+        &vertices,
+        &indices,
+        &mut out,
     )?;
-    read_with(rt, b"read again:", &out[..134], 13, 10, 4)
+    read_with(rt, "read again:", &out[..134], 13, 10, 4)
 }
 
 // Writes no faces, and reads that again with nothing lent.
@@ -310,36 +273,30 @@ fn write_none(rt: &impl Print) -> io::Result<()> {
     let vertices = [0.0; 3];
     let indices = [0u32; 3];
     let mut out = [7u8; 136];
-    write(
-        rt,
-        b"no faces:",
-        &vertices[..0],
-        &indices[..0],
-        &mut out[..],
-    )?;
-    read_with(rt, b"read again, nothing lent:", &out[..84], 0, 0, 0)
+    write(rt, "no faces:", &vertices[..0], &indices[..0], &mut out)?;
+    read_with(rt, "read again, nothing lent:", &out[..84], 0, 0, 0)
 }
 
 // Writes the face of the vertices 0, 1 and `last` of four, where the fourth is (x,0,0), into so many bytes.
-fn write_with(rt: &impl Print, what: &[u8], x: f64, last: u32, room: usize) -> io::Result<()>
+fn write_with(rt: &impl Print, what: &str, x: f64, last: u32, room: usize) -> io::Result<()>
     requires { room ≤ 136 }
 {
     let vertices = [0.0, 0.0, 0.0, 1.0, 0.0, 0.0, 0.0, 1.0, 0.0, x, 0.0, 0.0];
     let indices = [0u32, 1, last];
     let mut out = [7u8; 136];
-    write(rt, what, &vertices[..], &indices[..], &mut out[..room])
+    write(rt, what, &vertices, &indices, &mut out[..room])
 }
 
 fn write_cases(rt: &impl Print) -> io::Result<()> {
-    write_with(rt, b"0.1 in a vertex that no face names:", 0.1, 2, 136)?;
-    write_with(rt, b"NaN in one that no face names:", 0.0 / 0.0, 2, 136)?;
-    write_with(rt, b"0.1 in one that a face names:", 0.1, 3, 136)?;
-    write_with(rt, b"2^-150:", 7.006492321624085e-46, 3, 136)?;
-    write_with(rt, b"1 + 2^-24:", 1.0000000596046448, 3, 136)?;
-    write_with(rt, b"room for 133 bytes:", 1.0, 3, 133)?;
+    write_with(rt, "0.1 in a vertex that no face names:", 0.1, 2, 136)?;
+    write_with(rt, "NaN in one that no face names:", 0.0 / 0.0, 2, 136)?;
+    write_with(rt, "0.1 in one that a face names:", 0.1, 3, 136)?;
+    write_with(rt, "2^-150:", 7.006492321624085e-46, 3, 136)?;
+    write_with(rt, "1 + 2^-24:", 1.0000000596046448, 3, 136)?;
+    write_with(rt, "room for 133 bytes:", 1.0, 3, 133)?;
     write_with(
         rt,
-        b"vertex 4 of four, one of which is NaN:",
+        "vertex 4 of four, one of which is NaN:",
         0.0 / 0.0,
         4,
         136,

@@ -1,4 +1,5 @@
 -- The points of the strokes that an accepted `contour` leaves are finite and have no -0, since those of the segments are.
+use Rattle.std.specs.Prelude.{Ok}
 use mathlib.Core.Path.{◌≡◌, subst}
 use mathlib.Core.Bool.{true, ◌&&◌}
 use mathlib.Core.List.{List}
@@ -8,7 +9,6 @@ use lib.Dec.{T}
 use lib.Ieee.{Float, binary64, fits}
 use lib.Ieee.Fits.{and_i}
 use lib.Ieee.Scale.{finite}
-use Rattle.refusal.specs.declared.Verdict.TheVariants.{Accepted}
 use Rattle.refusal.specs.Each.{Each}
 use Rattle.refusal.specs.Outcome.{leaves}
 use Rattle.refusal.proofs.Outcomes.{was_accepted}
@@ -24,9 +24,9 @@ use Rattle.mesh_section.specs.Call.{numbers_good}
 use Rattle.mesh_contour_rule.specs.Contour.{segments_of}
 use Rattle.mesh_contour_rule.specs.Numbers.{no_minus_zero, Coordinates}
 use Rattle.mesh_contour_rule.proofs.Plains.{plain}
-use Rattle.mesh_contour.specs.declared.Contoured.TheVariants.{Wrote}
+use Rattle.path.specs.Call.{place, placed_said}
 use Rattle.mesh_contour.specs.Contour.{contour_of}
-use Rattle.mesh_contour.specs.Call.{Lent, said, verdict_of, contour_left}
+use Rattle.mesh_contour.specs.Call.{Lent, verdict_of, contour_left}
 use Rattle.contour_demand.specs.Demand3.{strokes_written}
 use Rattle.contour_demand.specs.Points.{plain_number, Doubles, PlainPoints, PlainContour}
 use Rattle.contour_demand.proofs.Theorem.{contour_laid}
@@ -51,7 +51,7 @@ plain-points vs ss f z d = record { all_finite = f; no_minus_zeros = z; meet = �
     meets h = each-zip (λ s p q. each-zip (λ a x y. each-zip (λ t u w. each-zip (λ b z o. same-equal.points a b x z) t u w) ss h h) s p q) ss h h
 
 module _ (vs : List Float) (is : List ℕ) (plane : Plane) (tolerance : Float) where
-  tested : (words numbers room starts : ℕ) → verdict_of vs is plane tolerance words numbers room starts ≡ Accepted → (all_below (length vs / 3) is ≡ true) × (numbers_good vs plane tolerance ≡ true)
+  tested : (words numbers room starts : ℕ) → verdict_of vs is plane tolerance words numbers room starts ≡ (Ok tt) → (all_below (length vs / 3) is ≡ true) × (numbers_good vs plane tolerance ≡ true)
   unfolding verdict_of
   tested words numbers room starts e =
       let a = passed _ _ _ (passed _ _ _ (passed _ _ _ e).1).1 in
@@ -69,7 +69,7 @@ module _ (vs : List Float) (is : List ℕ) (plane : Plane) (tolerance : Float) w
       }
 
   -- of every accepted contour: each point of its segments, and of the strokes that it leaves, is finite and has no -0
-  pub contour_plain : (s : List ℕ) (f op : List Float) (os : List ℕ) (p q : ℕ) (l' : Lent) → leaves (said (Wrote p q)) l' ≡ contour_left vs is plane tolerance s f op os
+  pub contour_plain : (s : List ℕ) (f op : List Float) (os : List ℕ) (p q : ℕ) (l' : Lent) → leaves (placed_said (Ok (place p q))) l' ≡ contour_left vs is plane tolerance s f op os
       → PlainContour vs is plane tolerance (strokes_written p q l'.points l'.starts)
   unfolding contour_left
   contour_plain s f op os p q l' e =

@@ -1,4 +1,5 @@
 -- Demand 3 of every accepted `contour`.
+use Rattle.std.specs.Prelude.{Ok}
 use mathlib.Core.Path.{◌≡◌, sym, ap, subst}
 use mathlib.Core.List.{List, [], ◌∷◌}
 use Prim.Native.Nat.{ℕ}
@@ -21,9 +22,9 @@ use Rattle.path_segments.proofs.Joins.{points_lawful}
 use Rattle.mesh_section.specs.declared.Plane.{Plane}
 use Rattle.mesh_contour_rule.specs.Contour.{segments_of}
 use Rattle.mesh_contour_rule.proofs.Closed.{all_closed}
-use Rattle.mesh_contour.specs.declared.Contoured.TheVariants.{Wrote}
+use Rattle.path.specs.Call.{place, placed_said}
 use Rattle.mesh_contour.specs.Contour.{contour_of}
-use Rattle.mesh_contour.specs.Call.{Lent, said, laid, contour_left}
+use Rattle.mesh_contour.specs.Call.{Lent, laid, contour_left}
 use Rattle.mesh_contour.proofs.Back.{points_again}
 use Rattle.contour_demand.specs.Demand3.{strokes_written, Contours}
 
@@ -40,7 +41,7 @@ read ss op os op' os' p q e f g =
     (sym (strokes_again (point_at (over op (flat (joined ss)))) ss 0 (length (joined ss)) (omega arith) (points_again (joined ss) (drop (length (flat (joined ss))) op))))
 
 module _ (vs : List Float) (is : List ℕ) (plane : Plane) (tolerance : Float) (s : List ℕ) (f op : List Float) (os : List ℕ) where
-  pub contour_laid : (p q : ℕ) (l' : Lent) → leaves (said (Wrote p q)) l' ≡ contour_left vs is plane tolerance s f op os → contour_of vs is plane tolerance ≡ strokes_written p q l'.points l'.starts
+  pub contour_laid : (p q : ℕ) (l' : Lent) → leaves (placed_said (Ok (place p q))) l' ≡ contour_left vs is plane tolerance s f op os → contour_of vs is plane tolerance ≡ strokes_written p q l'.points l'.starts
   unfolding contour_left laid
   contour_laid p q l' e =
       let g = (was_accepted _ _ _ _ _ e).1 in
@@ -55,5 +56,5 @@ module _ (vs : List Float) (is : List ℕ) (plane : Plane) (tolerance : Float) (
       }
 
   -- whatever an accepted contour leaves: each segment drawn and none invented; then as few open strokes as they allow, none of a closed mesh
-  pub contour_demand3 : (p q : ℕ) (l' : Lent) → leaves (said (Wrote p q)) l' ≡ contour_left vs is plane tolerance s f op os → Contours vs is plane tolerance (strokes_written p q l'.points l'.starts)
+  pub contour_demand3 : (p q : ℕ) (l' : Lent) → leaves (placed_said (Ok (place p q))) l' ≡ contour_left vs is plane tolerance s f op os → Contours vs is plane tolerance (strokes_written p q l'.points l'.starts)
   contour_demand3 p q l' e = subst (Contours vs is plane tolerance) (contour_laid p q l' e) the_contour

@@ -1,4 +1,5 @@
 -- Demand 3 of every accepted `draw` and of every accepted `splice`.
+use Rattle.std.specs.Prelude.{Ok}
 use mathlib.Core.Path.{◌≡◌, refl, sym, ap, ◌∙◌, subst}
 use mathlib.Core.Bool.{true}
 use mathlib.Core.List.{List, [], ◌∷◌}
@@ -8,8 +9,7 @@ use lib.Dec.{eqb, leb, ltb}
 use lib.Ieee.{Float}
 use lib.ListN.{length, get_or}
 use borrow.Author.Tests.{ltb-true, leb-true}
-use Rattle.refusal.specs.declared.Verdict.{Verdict}
-use Rattle.refusal.specs.declared.Verdict.TheVariants.{Accepted}
+use Rattle.refusal.specs.Refusals.{Verdict}
 use Rattle.refusal.specs.Limits.{most_vertices, most_faces}
 use Rattle.refusal.specs.Outcome.{Outcome, leaves}
 use Rattle.refusal.proofs.Unique.{same-values}
@@ -23,14 +23,14 @@ use Rattle.path_splice_rule.proofs.Bags.{bags}
 use Rattle.path_splice_rule.proofs.Numbers.{numbers, on-numbers}
 use Rattle.path.specs.Strokes.{strokes_in}
 use Rattle.path_splice.specs.Call as S
-use Rattle.path_splice.specs.declared.Spliced.TheVariants as spliced
+use Rattle.path.specs.Call.{place, placed_said}
 use Rattle.mesh.specs.Meshes.{counted_of, all_below}
 use Rattle.mesh_mode.specs.declared.Mode.{Mode}
 use Rattle.mesh_strokes.specs.Draw.{kept, seen_by, kept_of, drawing_of}
 use Rattle.mesh_strokes.specs.Call as L
 use Rattle.mesh_strokes.proofs.DrawingDemand.{drawing_demand3}
+use Rattle.mesh_draw.specs.declared.Sight.{Sight}
 use Rattle.mesh_draw.specs.Call as C
-use Rattle.mesh_draw.specs.declared.Drawing.TheVariants as drawing
 use Rattle.demand3.specs.Demand3.{strokes_written, Draws, kept_pair}
 use Rattle.demand3.proofs.Pairs.{once}
 
@@ -54,14 +54,14 @@ read ss op os op' os' p q e f g =
 -- ---- splice
 
 module _ (ps ss s op os : List ℕ) where
-  splice-laid : (p q : ℕ) (l' : S.Lent) → leaves (S.said (spliced.Wrote p q)) l' ≡ S.splice_left ps ss s op os → splice 0 eqb (strokes_in ps ss) ≡ strokes_written p q l'.points l'.starts
+  splice-laid : (p q : ℕ) (l' : S.Lent) → leaves (placed_said (Ok (place p q))) l' ≡ S.splice_left ps ss s op os → splice 0 eqb (strokes_in ps ss) ≡ strokes_written p q l'.points l'.starts
   unfolding S.splice_left S.laid
   splice-laid p q l' e =
       let g = (was_accepted _ _ _ _ _ e).1 in
       read (splice 0 eqb (strokes_in ps ss)) op os l'.points l'.starts p q (same-values (ap (λ (o : Outcome S.Lent). o.answer) g)) (ap (λ (o : Outcome S.Lent). o.lent.points) g) (ap (λ (o : Outcome S.Lent). o.lent.starts) g)
 
   -- whatever an accepted splice leaves, each pair of the strokes given is drawn as often as there
-  pub splice-demand3 : (p q : ℕ) (l' : S.Lent) → leaves (S.said (spliced.Wrote p q)) l' ≡ S.splice_left ps ss s op os
+  pub splice-demand3 : (p q : ℕ) (l' : S.Lent) → leaves (placed_said (Ok (place p q))) l' ≡ S.splice_left ps ss s op os
       → Draws (λ a b. drawn eqb a b (strokes_in ps ss)) (strokes_written p q l'.points l'.starts)
   splice-demand3 p q l' e =
       subst (Draws (λ a b. drawn eqb a b (strokes_in ps ss))) (splice-laid p q l' e)
@@ -75,7 +75,7 @@ below-words n [] h l k = omega arith
 below-words n (i ∷ is) h l zero = omega (arith, ltb-true i n (both (ltb i n) (all_below n is) h).0)
 below-words n (i ∷ is) h l (suc k) = below-words n is (both (ltb i n) (all_below n is) h).1 l k
 
-module _ (vs : List Float) (is flips : List ℕ) (s : C.Sight) (l : L.Lent) where
+module _ (vs : List Float) (is flips : List ℕ) (s : Sight) (l : L.Lent) where
   abbrev verdict : Verdict
   verdict = C.verdict_of vs is (length flips) s (C.lengths_of l)
 
@@ -89,7 +89,7 @@ module _ (vs : List Float) (is flips : List ℕ) (s : C.Sight) (l : L.Lent) wher
   abbrev pub once_kept : ℕ → ℕ → ℕ
   once_kept a b = one (kept_pair mode s.eye s.tolerance flips vs is a b)
 
-  words : verdict ≡ Accepted → (k : ℕ) → get_or is k 0 < 4294967296
+  words : verdict ≡ (Ok tt) → (k : ℕ) → get_or is k 0 < 4294967296
   unfolding C.verdict_of counted_of
   words h =
       let shape = passed _ _ _ h in
@@ -97,11 +97,11 @@ module _ (vs : List Float) (is flips : List ℕ) (s : C.Sight) (l : L.Lent) wher
       let vertex = passed _ _ _ count.1 in
       below-words (length vs / 3) is vertex.0 (leb-true _ _ (both (leb (length vs / 3) most_vertices) (leb (length is / 3) most_faces) count.0).0)
 
-  kept-once : verdict ≡ Accepted → (a b : ℕ) → drawn eqb a b (kept_of mode s.eye s.tolerance flips vs is) ≡ once_kept a b
+  kept-once : verdict ≡ (Ok tt) → (a b : ℕ) → drawn eqb a b (kept_of mode s.eye s.tolerance flips vs is) ≡ once_kept a b
   unfolding kept_of kept_pair
   kept-once h a b = once (kept mode (seen_by s.eye vs is) flips s.tolerance) is (words h) a b
 
-  draw_laid : (p q : ℕ) (l' : L.Lent) → leaves (C.said (drawing.Wrote p q)) l' ≡ C.draw_left vs is flips s l → (verdict ≡ Accepted) × (the_drawing ≡ strokes_written p q l'.points l'.starts)
+  draw_laid : (p q : ℕ) (l' : L.Lent) → leaves (placed_said (Ok (place p q))) l' ≡ C.draw_left vs is flips s l → (verdict ≡ (Ok tt)) × (the_drawing ≡ strokes_written p q l'.points l'.starts)
   unfolding C.draw_left L.laid
   draw_laid p q l' e =
       let k = was_accepted _ _ _ _ _ e in
@@ -109,7 +109,7 @@ module _ (vs : List Float) (is flips : List ℕ) (s : C.Sight) (l : L.Lent) wher
       (k.0, read the_drawing l.points l.starts l'.points l'.starts p q (same-values (ap (λ (o : Outcome L.Lent). o.answer) g)) (ap (λ (o : Outcome L.Lent). o.lent.points) g) (ap (λ (o : Outcome L.Lent). o.lent.starts) g))
 
   -- whatever an accepted draw leaves: each kept edge once and none invented; then as few open strokes as those edges allow
-  pub draw_demand3 : (p q : ℕ) (l' : L.Lent) → leaves (C.said (drawing.Wrote p q)) l' ≡ C.draw_left vs is flips s l → Draws once_kept (strokes_written p q l'.points l'.starts)
+  pub draw_demand3 : (p q : ℕ) (l' : L.Lent) → leaves (placed_said (Ok (place p q))) l' ≡ C.draw_left vs is flips s l → Draws once_kept (strokes_written p q l'.points l'.starts)
   draw_demand3 p q l' e =
       let g = draw_laid p q l' e in
       subst (Draws once_kept) g.1 (draws (kept_of mode s.eye s.tolerance flips vs is) the_drawing once_kept (drawing_demand3 mode s.eye s.tolerance flips vs is) (kept-once g.0))

@@ -14,7 +14,7 @@ fn show(rt: &impl Print, bytes: &[u8]) -> io::Result<()> {
     rt.write_all(&text[..k])
 }
 
-// Reads until there is no room or no more to read, and answers how many bytes came.
+// Reads until there is no room or no more to read, and answers how many bytes came. (A `while`: a read brings as many bytes as it brings.)
 fn read_full(input: &mut impl Read, room: &mut [u8]) -> io::Result<usize>
     ensures { IfOk result (λ n. n ≤ length room.new) }
 {

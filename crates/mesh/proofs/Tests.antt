@@ -1,4 +1,6 @@
 -- Laws of the tests of a mesh.
+use Rattle.std.specs.Prelude.{Ok, Err}
+use lib.Ieee.{Float}
 use mathlib.Core.Path.{◌≡◌, refl, sym}
 use mathlib.Core.Bool.{Bool, true, false, ◌&&◌}
 use mathlib.Core.List.{List, [], ◌∷◌}
@@ -11,8 +13,11 @@ use lib.ListN.{length, get_or, drop, drop_of_length-le}
 use lib.Seq.{drop-cons}
 use borrow.Author.Tests.{le-ltb, lt-ltb, ltb-true, leb-true, le-leb, eqb-true, ne_eqb}
 use Rattle.refusal.specs.Limits.{most_faces, most_vertices}
-use Rattle.path.proofs.Tests.{both, split}
-use Rattle.mesh.specs.Meshes.{shaped_of, counted_of, all_below, reach_of}
+use Rattle.refusal.specs.declared.Refusal.{Refusal}
+use Rattle.refusal.specs.declared.Refusal.TheVariants.{Shape, Count, Vertex}
+use Rattle.refusal.specs.Refusals.{Verdict, unless}
+use Rattle.path.proofs.Tests.{both, split, passed}
+use Rattle.mesh.specs.Meshes.{shaped_of, counted_of, all_below, mesh_verdict, reach_of}
 
 and_false : (b : Bool) → (b && false) ≡ false
 and_false true = refl
@@ -67,6 +72,11 @@ module _ (v : ℕ) (is : List ℕ) (n k : ℕ) (h : reach_of v is n ≡ true) (l
   unfolding reach_of
   vertex_there = index_below v is k (both (leb (n * 3) (length is)) (all_below v is) h).1 corner_there
 
+-- what reaches: the faces are there, and every index is that of a vertex
+pub reached : (v : ℕ) (is : List ℕ) (n : ℕ) → reach_of v is n ≡ true → (n * 3 ≤ length is) × (all_below v is ≡ true)
+unfolding reach_of
+reached v is n h = let b = both (leb (n * 3) (length is)) (all_below v is) h in (leb-true (n * 3) (length is) b.0, b.1)
+
 -- indices that are all those of vertices reach
 pub all_reach : (v : ℕ) (is : List ℕ) → all_below v is ≡ true → reach_of v is (length is / 3) ≡ true
 unfolding reach_of
@@ -80,3 +90,26 @@ few_faces numbers indices h = leb-true _ _ (both (leb (numbers / 3) most_vertice
 pub whole_faces : (numbers indices : ℕ) → shaped_of numbers indices ≡ true → indices ≡ indices / 3 * 3
 unfolding shaped_of
 whole_faces numbers indices h = let e = eqb-true (indices % 3) 0 (both (eqb (numbers % 3) 0) (eqb (indices % 3) 0) h).1 in omega arith
+
+-- what the tests of a mesh tell, and what they leave to those that follow
+module _ (vs : List Float) (is : List ℕ) where
+  pub mesh-told : mesh_verdict vs is (Ok tt) ≡ Ok tt → (shaped_of (length vs) (length is) ≡ true) × (counted_of (length vs) (length is) ≡ true) × (all_below (length vs / 3) is ≡ true)
+  unfolding mesh_verdict
+  mesh-told h =
+      let a = passed _ _ _ h in
+      let b = passed _ _ _ a.1 in
+      (a.0, b.0, (passed _ _ _ b.1).0)
+
+  pub mesh-passed : mesh_verdict vs is (Ok tt) ≡ Ok tt → (next : Verdict) → mesh_verdict vs is next ≡ next
+  unfolding mesh_verdict unless
+  mesh-passed h next = let t = mesh-told h in rw (t.0, t.1, t.2)
+
+  pub mesh-refused : (r : Refusal) → mesh_verdict vs is (Ok tt) ≡ Err r → (next : Verdict) → mesh_verdict vs is next ≡ Err r
+  unfolding mesh_verdict unless
+  mesh-refused r h next = go (shaped_of (length vs) (length is)) (counted_of (length vs) (length is)) (all_below (length vs / 3) is) h
+    where
+      go : (a b c : Bool) → unless a Shape (unless b Count (unless c Vertex (Ok tt))) ≡ Err r → unless a Shape (unless b Count (unless c Vertex next)) ≡ Err r
+      go false b c e = e
+      go true false c e = e
+      go true true false e = e
+      go true true true e = cc

@@ -1,5 +1,7 @@
 -- A mesh: vertices as three numbers each, and three indices a face.
 use Rattle.std.specs.Prelude.{Bool, true, ◌&&◌, List, [], ◌∷◌, ℕ, ◌+◌, ◌*◌, ◌/◌, ◌%◌, length, get_or, leb, ltb, eqb, Float}
+use Rattle.refusal.specs.declared.Refusal.TheVariants.{Shape, Count, Vertex}
+use Rattle.refusal.specs.Refusals.{Verdict, unless}
 use Rattle.refusal.specs.Limits.{most_faces, most_vertices}
 use Rattle.vector.specs.declared.Vector.{Vector}
 use Rattle.path.specs.Strokes.{point_at}
@@ -29,6 +31,13 @@ counted_of numbers indices = leb (numbers / 3) most_vertices && leb (indices / 3
 unfoldable pub all_below : ℕ → List ℕ → Bool
 all_below n [] = true
 all_below n (i ∷ is) = ltb i n && all_below n is
+
+-- the tests of a mesh that a call is lent, before those that follow
+unfoldable pub mesh_verdict : List Float → List ℕ → Verdict → Verdict
+mesh_verdict vs is next =
+    unless (shaped_of (length vs) (length is)) Shape
+    (unless (counted_of (length vs) (length is)) Count
+    (unless (all_below (length vs / 3) is) Vertex next))
 
 -- the first n faces are there, and with v vertices all their corners
 unfoldable pub reach_of : ℕ → List ℕ → ℕ → Bool

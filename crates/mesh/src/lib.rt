@@ -1,19 +1,56 @@
 // What the calls on meshes share: a face by its corners, and the tests of a mesh.
 #![tactic(auto)]
 
-ghost use Rattle.std.specs.Prelude.{◌≡◌, ◌&&◌, ℕ, ◌<◌, ltb};
-ghost use Rattle.mesh.specs.Meshes.{shaped_of, counted_of, all_below, reach_of, vector_good};
+ghost use Rattle.std.specs.Prelude.{◌≡◌, Ok, true, ◌&&◌, ℕ, ◌+◌, ◌*◌, ◌/◌, ◌≤◌, ◌<◌, length, ltb};
+ghost use Rattle.mesh.specs.Meshes.{corner_at, face_at, shaped_of, counted_of, all_below, mesh_verdict, reach_of, vector_good};
 
 use path::coordinate_good;
-use refusal::{MOST_FACES, MOST_VERTICES};
+use refusal::{MOST_FACES, MOST_VERTICES, Refusal};
 use vector::Vector;
 
 // The three corners of a face.
-#[derive(Clone, Copy)]
+#[derive(Clone, Copy, Debug, PartialEq)]
 pub struct Triangle {
     pub v1: Vector,
     pub v2: Vector,
     pub v3: Vector,
+}
+
+// A mesh whose indices are all those of its vertices, so that a corner is read with no test.
+#[derive(Clone, Copy)]
+pub struct Mesh<'a> {
+    pub vertices: &'a [f64],
+    pub indices: &'a [u32],
+    pub ghost below: { all_below (length vertices.now / 3) indices.now ≡ true },
+}
+
+impl<'a> Mesh<'a> {
+    // The vertex of corner k.
+    #[tactic(auto, using(crate::proofs::Tests::index_below), unfolding(path::specs::Strokes::point_at))]
+    pub fn corner(self, k: usize) -> Vector
+        requires { k < length self.indices.now }
+        ensures { result ≡ corner_at self.entry.vertices.now self.entry.indices.now k }
+    {
+        let i = self.indices[k] as usize * 3;
+        Vector {
+            x: self.vertices[i],
+            y: self.vertices[i + 1],
+            z: self.vertices[i + 2],
+        }
+    }
+
+    // The corners of face f.
+    pub fn face(self, f: u32) -> Triangle
+        requires { f * 3 + 2 < length self.indices.now }
+        ensures { result ≡ face_at self.entry.vertices.now self.entry.indices.now f }
+    {
+        let k = f as usize * 3;
+        Triangle {
+            v1: self.corner(k),
+            v2: self.corner(k + 1),
+            v3: self.corner(k + 2),
+        }
+    }
 }
 
 // Whether so many numbers are vertices and so many indices faces, three each.
@@ -47,11 +84,9 @@ fn larger(a: u32, b: u32) -> u32
 fn largest(indices: &[u32]) -> u32
     ensures { (n : ℕ) → 0 < n → all_below n indices.now ≡ ltb result n }
 {
-    let mut m: u32 = 0;
-    let mut i = 0;
-    while i < indices.len() {
-        m = larger(m, indices[i]);
-        i += 1;
+    let mut m = 0;
+    for index in indices {
+        m = larger(m, *index);
     }
     m
 }
@@ -64,6 +99,23 @@ pub fn all_below(indices: &[u32], n: usize) -> bool
         return indices.len() == 0;
     }
     (largest(indices) as usize) < n
+}
+
+// The tests of a mesh that a call is lent.
+#[tactic(auto, unfolding(crate::specs::Meshes::mesh_verdict, refusal::specs::Refusals::unless))]
+pub fn mesh_verdict(vertices: &[f64], indices: &[u32]) -> Result<(), Refusal>
+    ensures { result ≡ mesh_verdict vertices.now indices.now (Ok tt) }
+{
+    if !shaped(vertices.len(), indices.len()) {
+        return Err(Refusal::Shape);
+    }
+    if !counted(vertices.len(), indices.len()) {
+        return Err(Refusal::Count);
+    }
+    if !all_below(indices, vertices.len() / 3) {
+        return Err(Refusal::Vertex);
+    }
+    Ok(())
 }
 
 // Whether the first n faces are there, and with v vertices all their corners.

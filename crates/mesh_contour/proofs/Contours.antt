@@ -1,5 +1,6 @@
 -- What the tests before a contour promise, and what an accepted one leaves.
-use mathlib.Core.Path.{◌≡◌, sym, ap, ◌∙◌}
+use Rattle.std.specs.Prelude.{Ok}
+use mathlib.Core.Path.{◌≡◌, refl, sym, ap, ◌∙◌}
 use mathlib.Core.Bool.{true}
 use mathlib.Core.List.{List}
 use Prim.Native.Nat.{ℕ, ◌*◌, ◌/◌, ◌≤◌}
@@ -9,8 +10,8 @@ use lib.Dec.{leb}
 use lib.Ieee.{Float}
 use borrow.Author.Tests.{leb-true, le-leb}
 use Rattle.refusal.specs.Limits.{most_faces, most_strokes}
-use Rattle.refusal.specs.declared.Verdict.{Verdict}
-use Rattle.refusal.specs.declared.Verdict.TheVariants.{Accepted}
+use Rattle.refusal.specs.declared.Refusal.TheVariants.{Scratch, Room}
+use Rattle.refusal.specs.Refusals.{Verdict, unless}
 use Rattle.refusal.specs.Outcome.{Outcome, leaves}
 use Rattle.refusal.proofs.Outcomes.{accept}
 use Rattle.vector.specs.declared.Vector.{Vector}
@@ -21,10 +22,10 @@ use Rattle.path.specs.InnerPushes.{put_points}
 use Rattle.path.proofs.Tests.{passed, both}
 use Rattle.path.proofs.Places.{placed}
 use Rattle.path_segments.specs.Join.{Lent as Joined, left as joined_to, laid as join_laid, join_of, join_fits, join_left}
-use Rattle.mesh.specs.Meshes.{reach_of}
-use Rattle.mesh.proofs.Tests.{few_faces, all_reach}
+use Rattle.mesh.specs.Meshes.{all_below, mesh_verdict}
+use Rattle.mesh.proofs.Tests.{few_faces}
 use Rattle.mesh_section.specs.declared.Plane.{Plane}
-use Rattle.mesh_section.specs.Call.{room_for}
+use Rattle.mesh_section.specs.Call.{room_for, cut_verdict}
 use Rattle.mesh_contour_rule.specs.Contour.{corner_of, segments_from, segments_of}
 use Rattle.mesh_contour.specs.Contour.{contour_of}
 use Rattle.mesh_contour.specs.Call.{lent, left, laid, scratch_for, verdict_of, contour_left}
@@ -40,7 +41,7 @@ pub record Granted (n words numbers room start_room : ℕ) : Type 0 where
   pub enough_starts : n ≤ start_room
 
 -- what passes the tests is granted all that, and every corner is there
-module _ (vs : List Float) (is : List ℕ) (p : Plane) (tolerance : Float) (words numbers room start_room : ℕ) (v : Verdict) (told : v ≡ verdict_of vs is p tolerance words numbers room start_room) (yes : v ≡ Accepted) where
+module _ (vs : List Float) (is : List ℕ) (p : Plane) (tolerance : Float) (words numbers room start_room : ℕ) (v : Verdict) (told : v ≡ verdict_of vs is p tolerance words numbers room start_room) (yes : v ≡ (Ok tt)) where
   pub granted : Granted (length is / 3) words numbers room start_room
   unfolding verdict_of scratch_for room_for
   granted =
@@ -57,9 +58,16 @@ module _ (vs : List Float) (is : List ℕ) (p : Plane) (tolerance : Float) (word
         enough_starts = leb-true _ _ r.1;
       }
 
-  pub reaching : reach_of (length vs / 3) is (length is / 3) ≡ true
+  -- every index is that of a vertex
+  pub below : all_below (length vs / 3) is ≡ true
   unfolding verdict_of
-  reaching = all_reach (length vs / 3) is (passed _ _ _ (passed _ _ _ (passed _ _ _ (sym told ∙ yes)).1).1).0
+  below = (passed _ _ _ (passed _ _ _ (passed _ _ _ (sym told ∙ yes)).1).1).0
+
+-- the tests of a section come first, but for its room, which comes last
+pub room-last : (vs : List Float) (is : List ℕ) (p : Plane) (tolerance : Float) (words numbers room start_room : ℕ) → verdict_of vs is p tolerance words numbers room start_room
+    ≡ cut_verdict vs is p tolerance (unless (scratch_for (length is / 3) words numbers) Scratch (unless (room_for (length is / 3) room start_room) Room (Ok tt)))
+unfolding verdict_of cut_verdict mesh_verdict
+room-last vs is p tolerance words numbers room start_room = refl
 
 -- segments of two points each, no more than n
 module _ (ss : List (List Vector)) (two : Pairs ss) (n : ℕ) (few : length ss ≤ n) (s : List ℕ) (f op : List Float) (os : List ℕ) (g : Granted n (length s) (length f) (length op) (length os)) where
@@ -83,7 +91,7 @@ module _ (ss : List (List Vector)) (two : Pairs ss) (n : ℕ) (few : length ss �
 
 -- an accepted call, by what its functions ensure
 module _ (vs : List Float) (is : List ℕ) (plane : Plane) (tolerance : Float) (s : List ℕ) (f op : List Float) (os : List ℕ) (v : Verdict)
-    (told : v ≡ verdict_of vs is plane tolerance (length s) (length f) (length op) (length os)) (yes : v ≡ Accepted) where
+    (told : v ≡ verdict_of vs is plane tolerance (length s) (length f) (length op) (length os)) (yes : v ≡ (Ok tt)) where
   abbrev segments : List (List Vector)
   segments = segments_from (corner_of plane tolerance vs is) 0 (length is / 3)
 

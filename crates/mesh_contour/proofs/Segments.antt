@@ -12,9 +12,9 @@ use Rattle.path.specs.Laid.{joined}
 use Rattle.path.specs.InnerPushes.{put_point, put_points}
 use Rattle.path.proofs.Points.{points_lie}
 use Rattle.mesh_contour_rule.specs.declared.Corner.{Corner}
-use Rattle.mesh_contour_rule.specs.declared.Cut.{Cut}
-use Rattle.mesh_contour_rule.specs.declared.Cut.TheVariants.{Of, Nothing}
-use Rattle.mesh_contour_rule.specs.Contour.{met, gives_by, unsigned_point, segment_by, cut_points, segment_of, segments_from}
+use Rattle.mesh_section.specs.Section.{cut_stroke}
+use Rattle.std.specs.Prelude.{Option, Some, None}
+use Rattle.mesh_contour_rule.specs.Contour.{met, gives_by, unsigned_point, segment_by, segment_of, segments_from}
 use Rattle.mesh_contour_rule.specs.InnerMet.{first_met, last_met}
 use Rattle.mesh_contour_rule.proofs.Around.{met-two}
 
@@ -25,12 +25,12 @@ pub face-cut : (at : ℕ → Corner) (f : ℕ) {s : List Vector} {a b c : Corner
 unfolding segment_of
 face-cut at f e z y x = rw (← z, ← y, ← x) e
 
-pub stored : (l l₁ l₂ : List Float) (k : ℕ) (c : Cut) (v w : Vector) → c ≡ Of v w → l₁ ≡ put_point l (2 * k) v → l₂ ≡ put_point l₁ (2 * k + 1) w
-    → (l₂ ≡ put_points l (2 * k) (cut_points c)) × (2 * (k + 1) ≡ 2 * k + length (cut_points c)) × (k + 1 ≤ k + 1)
+pub stored : (l l₁ l₂ : List Float) (k : ℕ) (c : Option (Vector × Vector)) (v w : Vector) → c ≡ Some (v, w) → l₁ ≡ put_point l (2 * k) v → l₂ ≡ put_point l₁ (2 * k + 1) w
+    → (l₂ ≡ put_points l (2 * k) (cut_stroke c)) × (2 * (k + 1) ≡ 2 * k + length (cut_stroke c)) × (k + 1 ≤ k + 1)
 unfolding put_points
 stored l l₁ l₂ k c v w e e₁ e₂ = rw e (rw (← e₁, ← e₂), omega arith, omega arith)
 
-pub unstored : (l : List Float) (k : ℕ) (c : Cut) → c ≡ Nothing → (l ≡ put_points l (2 * k) (cut_points c)) × (2 * k ≡ 2 * k + length (cut_points c)) × (k ≤ k + 1)
+pub unstored : (l : List Float) (k : ℕ) (c : Option (Vector × Vector)) → c ≡ None → (l ≡ put_points l (2 * k) (cut_stroke c)) × (2 * k ≡ 2 * k + length (cut_stroke c)) × (k ≤ k + 1)
 unfolding put_points
 unstored l k c e = rw e (refl, omega arith, omega arith)
 

@@ -1,10 +1,10 @@
 -- What a contour answers and leaves in the four lists lent to it.
+use Rattle.std.specs.Prelude.{Ok}
 use Rattle.std.specs.Prelude.{Bool, ◌&&◌, List, [], ◌∷◌, ℕ, ◌*◌, ◌/◌, length, replicate, leb, Float}
 use Rattle.refusal.specs.declared.Refusal.TheVariants.{Shape, Count, Vertex, Number, Scratch, Room}
-use Rattle.refusal.specs.declared.Verdict.{Verdict}
-use Rattle.refusal.specs.declared.Verdict.TheVariants.{Accepted}
+use Rattle.refusal.specs.Refusals.{Verdict}
 use Rattle.refusal.specs.Refusals.{unless}
-use Rattle.refusal.specs.Said.{Said, accepted, refused}
+use Rattle.refusal.specs.Said.{Said, accepted}
 use Rattle.refusal.specs.Outcome.{Outcome, leaves, outcome}
 use Rattle.vector.specs.declared.Vector.{Vector}
 use Rattle.vector.specs.Lengths.{zero64}
@@ -12,14 +12,7 @@ use Rattle.path.specs.Laid.{over, joined, starts_from, flat}
 use Rattle.mesh.specs.Meshes.{shaped_of, counted_of, all_below}
 use Rattle.mesh_section.specs.declared.Plane.{Plane}
 use Rattle.mesh_section.specs.Call.{numbers_good, room_for}
-use Rattle.mesh_contour.specs.declared.Contoured.{Contoured}
-use Rattle.mesh_contour.specs.declared.Contoured.TheVariants as C
 use Rattle.mesh_contour.specs.Contour.{contour_of}
-
--- the answer as the paper reads it
-abbrev pub said : Contoured → Said ℕ
-said (C.Wrote points starts) = accepted (points ∷ starts ∷ [])
-said (C.Refused r) = refused r
 
 pub record Lent : Type 0 where
   pub words : List ℕ
@@ -51,7 +44,7 @@ verdict_of vs is p tolerance words numbers room start_room =
     (unless (numbers_good vs p tolerance) Number
     (unless (scratch_for (length is / 3) words numbers) Scratch
     (unless (room_for (length is / 3) room start_room) Room
-    Accepted)))))
+    (Ok tt))))))
 
 unfoldable pub contour_left : List Float → List ℕ → Plane → Float → List ℕ → List Float → List Float → List ℕ → Outcome Lent
 contour_left vs is p tolerance s f op os =

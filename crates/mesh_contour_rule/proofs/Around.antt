@@ -2,9 +2,7 @@
 use mathlib.Core.Path.{◌≡◌, refl, sym, ◌∙◌}
 use mathlib.Core.Bool.{Bool, true, false, cond, true≢false}
 use mathlib.Core.List.{List, [], ◌∷◌, ◌++◌, map}
-use Prim.Native.Nat.{ℕ}
 use lib.Dec.{eqb}
-use borrow.Author.Tests.{eq-eqb, ne_eqb}
 use Rattle.vector.specs.declared.Vector.{Vector}
 use Rattle.mesh_contour_rule.specs.declared.Side.{Side}
 use Rattle.mesh_contour_rule.specs.declared.Side.TheVariants.{Above, Below, On}
@@ -67,45 +65,6 @@ unfolding met at_corner on_side first_met last_met
 met-two a b c h = two a.side b.side c.side a.at (crossing a b) b.at (crossing b c) c.at (crossing c a) h
 
 -- ---- what the code answers: the first place, the last place, and the segment
-pub is_one : {n k : ℕ} → n ≡ k → n ≡ 1 → eqb k 1 ≡ true
-is_one {n} {k} e f = eq-eqb k 1 (sym e ∙ f)
-
-pub not_one : {n k : ℕ} → n ≡ k → (n ≡ 1 → ⊥) → eqb k 1 ≡ false
-not_one {n} {k} e f = ne_eqb k 1 (λ g. f (e ∙ g))
-
-module _ (a b c : Corner) where
-  pub first-a : eqb (on a.side) 1 ≡ true → a.at ≡ first_met a b c
-  unfolding first_met
-  first-a h = rw h
-
-  pub first-ab : eqb (on a.side) 1 ≡ false → parts a.side b.side ≡ true → crossing a b ≡ first_met a b c
-  unfolding first_met
-  first-ab h i = rw (h, i)
-
-  pub first-b : eqb (on a.side) 1 ≡ false → parts a.side b.side ≡ false → eqb (on b.side) 1 ≡ true → b.at ≡ first_met a b c
-  unfolding first_met
-  first-b h i j = rw (h, i, j)
-
-  pub first-bc : eqb (on a.side) 1 ≡ false → parts a.side b.side ≡ false → eqb (on b.side) 1 ≡ false → crossing b c ≡ first_met a b c
-  unfolding first_met
-  first-bc h i j = rw (h, i, j)
-
-  pub last_ca : parts c.side a.side ≡ true → crossing c a ≡ last_met a b c
-  unfolding last_met
-  last_ca h = rw h
-
-  pub last_c : parts c.side a.side ≡ false → eqb (on c.side) 1 ≡ true → c.at ≡ last_met a b c
-  unfolding last_met
-  last_c h i = rw (h, i)
-
-  pub last_bc : parts c.side a.side ≡ false → eqb (on c.side) 1 ≡ false → parts b.side c.side ≡ true → crossing b c ≡ last_met a b c
-  unfolding last_met
-  last_bc h i j = rw (h, i, j)
-
-  pub last_b : parts c.side a.side ≡ false → eqb (on c.side) 1 ≡ false → parts b.side c.side ≡ false → b.at ≡ last_met a b c
-  unfolding last_met
-  last_b h i j = rw (h, i, j)
-
 module _ (a b c : Corner) {g : Bool} (tested : g ≡ gives_by a.side b.side c.side) where
   pub cuts_none : g ≡ false → [] ≡ segment_by a b c
   unfolding segment_by

@@ -6,6 +6,7 @@ use native.Mathlib.Omega.{arith}
 use lib.Dec.{T, eqb}
 use borrow.Author.Tests.{eq-eqb, ne_eqb}
 use lib.Ieee.Fits.{and_l, and_r}
+use mir.Val.{bool_byte}
 use Rattle.mesh_contour_rule.specs.declared.Side.{Side}
 use Rattle.mesh_contour_rule.specs.declared.Side.TheVariants.{Above, Below, On}
 use Rattle.mesh_contour_rule.specs.Contour.{above, below, on, parts, gives, gives_by}
@@ -45,7 +46,17 @@ counted-gives : (r s t : Side) → counted (above r + above s + above t) (below 
 unfolding gives
 counted-gives = on-all (λ r s t. counted (above r + above s + above t) (below r + below s + below t)) gives_by tt
 
--- ---- with what the code counted
+-- ---- with what the code counted: a test of a side as a number
+pub above-counted : (s : Side) (b : Bool) → b ≡ eqb (above s) 1 → bool_byte b ≡ above s
+above-counted Above b e = rw e
+above-counted Below b e = rw e
+above-counted On b e = rw e
+
+pub below-counted : (s : Side) (b : Bool) → b ≡ eqb (below s) 1 → bool_byte b ≡ below s
+below-counted Above b e = rw e
+below-counted Below b e = rw e
+below-counted On b e = rw e
+
 module _ (r s t : Side) {a b c d e f : ℕ} (A : a ≡ above r) (B : b ≡ above s) (C : c ≡ above t) (D : d ≡ below r) (E : e ≡ below s) (F : f ≡ below t) where
   by_counts : counted (a + b + c) (d + e + f) ≡ gives_by r s t
   by_counts =
@@ -61,13 +72,3 @@ module _ (r s t : Side) {a b c d e f : ℕ} (A : a ≡ above r) (B : b ≡ above
 
   pub both_there : (a + b + c ≡ 0 → ⊥) → (d + e + f ≡ 0 → ⊥) → true ≡ gives_by r s t
   both_there h k = rw (ne_eqb (a + b + c) 0 h, ne_eqb (d + e + f) 0 k) at by_counts
-
-module _ (s t : Side) {a b : ℕ} (A : a ≡ above s) (B : b ≡ above t) where
-  pub together : (a + b ≡ 1 → ⊥) → false ≡ parts s t
-  together h = rw (ne_eqb (above s + above t) 1 (λ g. h (omega arith)))
-
-  pub apart : {d e : ℕ} → a + b ≡ 1 → d ≡ below s → e ≡ below t → eqb (d + e) 1 ≡ parts s t
-  apart {d} {e} h D E =
-      let k : above s + above t ≡ 1 = omega arith in
-      let l : d + e ≡ below s + below t = omega arith in
-      rw (eq-eqb (above s + above t) 1 k) (ap (λ (n : ℕ). eqb n 1) l)

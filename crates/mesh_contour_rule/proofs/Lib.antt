@@ -1,6 +1,5 @@
 pub mod Counts
 pub mod Around
-pub mod Steps
 pub mod Faces
 pub mod Zeros
 pub mod Heights

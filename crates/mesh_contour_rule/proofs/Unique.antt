@@ -2,18 +2,19 @@
 use mathlib.Core.Path.{◌≡◌, refl}
 use Prim.Native.Nat.{ℕ}
 use native.Mathlib.Omega.{arith}
+use Rattle.std.specs.Prelude.{Option, Some, None}
 use Rattle.refusal.specs.One.{One}
 use Rattle.refusal.proofs.Unique.{one-read}
+use Rattle.vector.specs.declared.Vector.{Vector}
+use Rattle.mesh_section.specs.Section.{cut_stroke}
 use Rattle.mesh_contour_rule.specs.declared.Corner.{Corner}
-use Rattle.mesh_contour_rule.specs.declared.Cut.{Cut}
-use Rattle.mesh_contour_rule.specs.declared.Cut.TheVariants.{Of, Nothing}
-use Rattle.mesh_contour_rule.specs.Contour.{segment_by, cut_points}
+use Rattle.mesh_contour_rule.specs.Contour.{segment_by}
 
-told : (r t : Cut) → cut_points r ≡ cut_points t → r ≡ t
-told (Of a b) (Of c d) e = cc
-told (Of a b) Nothing e = absurd (let z : ◌≡◌ {A = ℕ} 0 1 = cc in omega arith)
-told Nothing (Of c d) e = absurd (let z : ◌≡◌ {A = ℕ} 0 1 = cc in omega arith)
-told Nothing Nothing e = refl
+told : (r t : Option (Vector × Vector)) → cut_stroke r ≡ cut_stroke t → r ≡ t
+told (Some (a, b)) (Some (c, d)) e = cc
+told (Some (a, b)) None e = absurd (let z : ◌≡◌ {A = ℕ} 0 1 = cc in omega arith)
+told None (Some (c, d)) e = absurd (let z : ◌≡◌ {A = ℕ} 0 1 = cc in omega arith)
+told None None e = refl
 
-pub one-cut : (a b c : Corner) → One Cut (λ r. cut_points r ≡ segment_by a b c)
-one-cut a b c = one-read cut_points told (segment_by a b c)
+pub one-cut : (a b c : Corner) → One (Option (Vector × Vector)) (λ r. cut_stroke r ≡ segment_by a b c)
+one-cut a b c = one-read cut_stroke told (segment_by a b c)

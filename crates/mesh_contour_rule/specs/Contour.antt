@@ -10,8 +10,6 @@ use Rattle.mesh_section.specs.declared.Plane.{Plane}
 use Rattle.mesh_contour_rule.specs.declared.Side.{Side}
 use Rattle.mesh_contour_rule.specs.declared.Side.TheVariants.{Above, Below, On}
 use Rattle.mesh_contour_rule.specs.declared.Corner.{Corner}
-use Rattle.mesh_contour_rule.specs.declared.Cut.{Cut}
-use Rattle.mesh_contour_rule.specs.declared.Cut.TheVariants as C
 
 -- ---- where a vertex lies
 
@@ -89,11 +87,6 @@ unsigned_point v = record { x = unsigned v.x; y = unsigned v.y; z = unsigned v.z
 -- the segment of a face by its corners, nothing where it gives none
 unfoldable pub segment_by : Corner → Corner → Corner → List Vector
 segment_by a b c = cond (gives_by a.side b.side c.side) (map unsigned_point (met a b c)) []
-
--- the same as the code answers it
-abbrev pub cut_points : Cut → List Vector
-cut_points (C.Of a b) = a ∷ b ∷ []
-cut_points C.Nothing = []
 
 -- of face f, and of the n faces from f on, those that give one, in list order
 module _ (at : ℕ → Corner) where

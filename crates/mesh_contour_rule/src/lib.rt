@@ -1,15 +1,16 @@
 // The rule of a contour: where a plane that cuts a face meets it, its corners and sides in turn.
 #![tactic(auto)]
 
-ghost use Rattle.std.specs.Prelude.{◌≡◌, ◌≤◌};
-ghost use Rattle.mesh_contour_rule.specs.Contour.{corner_by, side_of, above, below, on, parts, cross_from, crossing as crossing_of, gives_by, unsigned, unsigned_point, segment_by, cut_points};
+ghost use Rattle.std.specs.Prelude.{◌≡◌, eqb};
+ghost use Rattle.mesh_contour_rule.specs.Contour.{corner_by, side_of, above, below, on, parts, cross_from, crossing as crossing_of, gives_by, unsigned, unsigned_point, segment_by};
+ghost use Rattle.mesh_section.specs.Section.{cut_stroke};
 ghost use Rattle.mesh_contour_rule.specs.InnerMet.{first_met, last_met};
 
 use mesh_section::Plane;
 use vector::Vector;
 
 // Where a vertex lies: above the plane, below it, or on it.
-#[derive(Clone, Copy)]
+#[derive(Clone, Copy, Debug, PartialEq, Eq)]
 pub enum Side {
     Above,
     Below,
@@ -17,7 +18,7 @@ pub enum Side {
 }
 
 // A corner of a face: the number of its vertex, where that lies, how high over the plane, and so on which side.
-#[derive(Clone, Copy)]
+#[derive(Clone, Copy, Debug, PartialEq)]
 pub struct Corner {
     pub vertex: u32,
     pub at: Vector,
@@ -25,14 +26,8 @@ pub struct Corner {
     pub side: Side,
 }
 
-// The two points of a face's segment, in the order met going round, if it gives one.
-#[derive(Clone, Copy)]
-pub enum Cut {
-    Of(Vector, Vector),
-    Nothing,
-}
-
 // The side of a height: above if not below the tolerance, below if not above minus the tolerance.
+#[tactic(auto, unfolding(crate::specs::Contour::side_of))]
 fn side_of(height: f64, tolerance: f64) -> Side
     ensures { result ≡ side_of tolerance height }
 {
@@ -51,55 +46,40 @@ pub fn corner_at(plane: Plane, tolerance: f64, vertex: u32, at: Vector) -> Corne
 {
     let height = plane.normal.dot(at.sub(plane.point));
     Corner {
-        vertex: vertex,
-        at: at,
-        height: height,
+        vertex,
+        at,
+        height,
         side: side_of(height, tolerance),
     }
 }
 
-// 1 for a corner that is above, else 0.
-fn is_above(s: Side) -> u32
-    ensures value { result ≡ above s }
-    ensures upper_bound { result ≤ 1 }
+// Whether a corner is above.
+fn is_above(s: Side) -> bool
+    ensures { result ≡ eqb (above s) 1 }
 {
-    match s {
-        Side::Above => 1,
-        Side::Below => 0,
-        Side::On => 0,
-    }
+    matches!(s, Side::Above)
 }
 
-// 1 for one that is below.
-fn is_below(s: Side) -> u32
-    ensures value { result ≡ below s }
-    ensures upper_bound { result ≤ 1 }
+// Whether it is below.
+fn is_below(s: Side) -> bool
+    ensures { result ≡ eqb (below s) 1 }
 {
-    match s {
-        Side::Above => 0,
-        Side::Below => 1,
-        Side::On => 0,
-    }
+    matches!(s, Side::Below)
 }
 
-// 1 for one that is on the plane.
-fn is_on(s: Side) -> u32
-    ensures value { result ≡ on s }
-    ensures upper_bound { result ≤ 1 }
+// Whether it is on the plane.
+fn is_on(s: Side) -> bool
+    ensures { result ≡ eqb (on s) 1 }
 {
-    match s {
-        Side::Above => 0,
-        Side::Below => 0,
-        Side::On => 1,
-    }
+    matches!(s, Side::On)
 }
 
 // Whether a face with corners on these sides gives a segment: some above and some below; or one above, the others on.
 fn gives(r: Side, s: Side, t: Side) -> bool
     ensures { result ≡ gives_by r s t }
 {
-    let a = is_above(r) + is_above(s) + is_above(t);
-    let b = is_below(r) + is_below(s) + is_below(t);
+    let a = is_above(r) as u32 + is_above(s) as u32 + is_above(t) as u32;
+    let b = is_below(r) as u32 + is_below(s) as u32 + is_below(t) as u32;
     if a == 0 {
         return false;
     }
@@ -113,13 +93,11 @@ fn gives(r: Side, s: Side, t: Side) -> bool
 fn parted(s: Side, t: Side) -> bool
     ensures { result ≡ parts s t }
 {
-    if is_above(s) + is_above(t) != 1 {
-        return false;
-    }
-    is_below(s) + is_below(t) == 1
+    is_above(s) != is_above(t) && is_below(s) != is_below(t)
 }
 
 // The crossing of the side from a to b: the share first, then the point.
+#[tactic(auto, unfolding(crate::specs::Contour::cross_from))]
 fn cross_from(a: Corner, b: Corner) -> Vector
     ensures { result ≡ cross_from a b }
 {
@@ -130,6 +108,7 @@ fn cross_from(a: Corner, b: Corner) -> Vector
 }
 
 // The crossing of a side, from its lower-numbered vertex: so all faces of an edge have the same bits.
+#[tactic(auto, unfolding(crate::specs::Contour::crossing))]
 fn crossing(a: Corner, b: Corner) -> Vector
     ensures { result ≡ crossing_of a b }
 {
@@ -140,24 +119,26 @@ fn crossing(a: Corner, b: Corner) -> Vector
 }
 
 // The first place met going round a face that gives a segment: corner 1, side 12, corner 2, or else side 23.
+#[tactic(auto, unfolding(crate::specs::InnerMet::first_met))]
 fn first_met(a: Corner, b: Corner, c: Corner) -> Vector
     ensures { result ≡ first_met a b c }
 {
     let r = a.side;
     let s = b.side;
-    if is_on(r) == 1 {
+    if is_on(r) {
         return a.at;
     }
     if parted(r, s) {
         return crossing(a, b);
     }
-    if is_on(s) == 1 {
+    if is_on(s) {
         return b.at;
     }
     crossing(b, c)
 }
 
 // The last place: side 31, corner 3, side 23, or else corner 2.
+#[tactic(auto, unfolding(crate::specs::InnerMet::last_met))]
 fn last_met(a: Corner, b: Corner, c: Corner) -> Vector
     ensures { result ≡ last_met a b c }
 {
@@ -167,7 +148,7 @@ fn last_met(a: Corner, b: Corner, c: Corner) -> Vector
     if parted(t, r) {
         return crossing(c, a);
     }
-    if is_on(t) == 1 {
+    if is_on(t) {
         return c.at;
     }
     if parted(s, t) {
@@ -197,18 +178,18 @@ fn unsigned_point(v: Vector) -> Vector
     }
 }
 
-// The segment of a face by its corners, -0 made 0.
-pub fn cut_face(a: Corner, b: Corner, c: Corner) -> Cut
-    ensures { cut_points result ≡ segment_by a b c }
+// The two points of a face's segment by its corners, in the order met going round, -0 made 0; none where it gives no segment.
+pub fn cut_face(a: Corner, b: Corner, c: Corner) -> Option<(Vector, Vector)>
+    ensures { cut_stroke result ≡ segment_by a b c }
 {
     let r = a.side;
     let s = b.side;
     let t = c.side;
     if !gives(r, s, t) {
-        return Cut::Nothing;
+        return None;
     }
-    Cut::Of(
+    Some((
         unsigned_point(first_met(a, b, c)),
         unsigned_point(last_met(a, b, c)),
-    )
+    ))
 }

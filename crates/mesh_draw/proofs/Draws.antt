@@ -1,23 +1,46 @@
 -- The call: what its tests promise, and what drawing then leaves.
-use mathlib.Core.Path.{◌≡◌}
-use mathlib.Core.Bool.{true, ◌&&◌}
+use Rattle.std.specs.Prelude.{Ok, Err}
+use mathlib.Core.Path.{◌≡◌, refl}
+use mathlib.Core.Bool.{Bool, true, false, ◌&&◌}
 use mathlib.Core.List.{List}
 use Prim.Native.Nat.{ℕ, ◌/◌, ◌%◌}
 use lib.ListN.{length}
 use lib.Dec.{leb, eqb}
 use lib.Ieee.{Float}
+use borrow.Author.Tests.{eq-eqb, ne_eqb}
+use Rattle.refusal.specs.declared.Refusal.TheVariants.{Shape}
+use Rattle.refusal.specs.Refusals.{Verdict, unless}
 use Rattle.refusal.specs.Limits.{most_faces, most_vertices}
-use Rattle.refusal.specs.declared.Verdict.TheVariants.{Accepted}
 use Rattle.vector.specs.declared.Vector.{Vector}
 use Rattle.path.proofs.Tests.{passed, both}
-use Rattle.mesh.specs.Meshes.{shaped_of, counted_of, all_below}
+use Rattle.mesh.specs.Meshes.{shaped_of, counted_of, all_below, mesh_verdict}
 use Rattle.mesh_mode.specs.declared.Mode.{Mode}
 use Rattle.mesh_strokes.specs.Draw.{drawing_of}
 use Rattle.mesh_strokes.specs.Call.{laid, fits, strokes_left}
-use Rattle.mesh_draw.specs.Call.{Sight, Lengths, paired, work_verdict, verdict_of}
+use Rattle.mesh_draw.specs.declared.Sight.{Sight}
+use Rattle.mesh_strokes.specs.declared.Lengths.{Lengths}
+use Rattle.mesh_draw.specs.Call.{paired, work_verdict, verdict_of}
+
+-- ---- the flips are tested with the shape of the mesh
+module _ (vs : List Float) (is : List ℕ) (flips : ℕ) (s : Sight) (l : Lengths) where
+  pub odd-flips : (flips % 2 ≡ 0 → ⊥) → verdict_of vs is flips s l ≡ Err Shape
+  unfolding verdict_of
+  odd-flips h = rw (ne_eqb (flips % 2) 0 h) (go (shaped_of (length vs) (length is)) _)
+    where
+      go : (b : Bool) (v : Verdict) → unless (b && false) Shape v ≡ Err Shape
+      go true v = unfold unless in refl
+      go false v = unfold unless in refl
+
+  pub even_flips : flips % 2 ≡ 0 → verdict_of vs is flips s l ≡ mesh_verdict vs is (work_verdict vs is s l)
+  unfolding verdict_of mesh_verdict
+  even_flips h = rw (eq-eqb (flips % 2) 0 h) (go (shaped_of (length vs) (length is)) _)
+    where
+      go : (b : Bool) (v : Verdict) → unless (b && true) Shape v ≡ unless b Shape v
+      go true v = refl
+      go false v = refl
 
 -- what passes the tests fits, and every index is that of a vertex
-pub granted : (vs : List Float) (is : List ℕ) (flips : ℕ) (s : Sight) (l : Lengths) → verdict_of vs is flips s l ≡ Accepted
+pub granted : (vs : List Float) (is : List ℕ) (flips : ℕ) (s : Sight) (l : Lengths) → verdict_of vs is flips s l ≡ (Ok tt)
     → (fits (length is) l.words l.seen l.points l.starts && all_below (length vs / 3) is) ≡ true
 unfolding verdict_of work_verdict shaped_of counted_of fits
 granted vs is flips s l h =

@@ -1,5 +1,6 @@
 -- Of every drawing that is refused for a flat face: the face that is carried is at fault and none below it is, and its kind is told
 -- right; no face with two corners alike escapes; and the drawings refused by 7 or 10 are those that 7 refused when it stood for both.
+use Rattle.std.specs.Prelude.{Result, Ok, Err}
 use mathlib.Core.Path.{◌≡◌, refl, sym, ap, ◌∙◌, subst}
 use mathlib.Core.Bool.{Bool, true, false, true≢false, not, cond, ◌&&◌, ◌||◌}
 use mathlib.Core.List.{List, [], ◌∷◌}
@@ -9,13 +10,14 @@ use lib.ListN.{length}
 use lib.Ieee.{Float}
 use Rattle.refusal.specs.declared.Refusal.{Refusal}
 use Rattle.refusal.specs.declared.Refusal.TheVariants.{Shape, Count, Vertex, Number, Scratch, Room, Alike, NoLength}
-use Rattle.refusal.specs.declared.Verdict.{Verdict}
-use Rattle.refusal.specs.declared.Verdict.TheVariants.{Accepted, Refused}
+use Rattle.refusal.specs.Refusals.{Verdict}
 use Rattle.refusal.specs.Refusals.{number_of, alike_number, carried_by, unless}
-use Rattle.refusal.specs.Said.{verdict_said}
+use Rattle.refusal.specs.Said.{accepted, refused, verdict_said}
 use Rattle.refusal.specs.Outcome.{Outcome, leaves}
 use Rattle.refusal.proofs.Outcomes.{was_accepted, was_refused, answers}
 use Rattle.path.specs.Tests.{coordinates_good, tolerance_good}
+use Rattle.path.specs.declared.Place.{Place}
+use Rattle.path.specs.Call.{placed_said}
 use Rattle.path.proofs.Tests.{passed, both}
 use Rattle.mesh.specs.declared.Triangle.{Triangle}
 use Rattle.mesh.specs.Meshes.{face_at, counted_of, all_below, vector_good}
@@ -27,15 +29,14 @@ use Rattle.mesh_seen.specs.Faults.{FirstFault, some_flat}
 use Rattle.mesh_seen.proofs.Faults.{first-fault, none-flat}
 use Rattle.mesh_seen.proofs.Alike.{alike-face}
 use Rattle.mesh_strokes.specs.Call.{Lent, laid, scratch_for, room_for}
-use Rattle.mesh_draw.specs.declared.Drawing.{Drawing}
-use Rattle.mesh_draw.specs.declared.Drawing.TheVariants as D
-use Rattle.mesh_draw.specs.Call.{Sight, names_mode, mode_named, numbers_good, lengths_of, said, flat_in, work_verdict, verdict_of, draw_left}
+use Rattle.mesh_draw.specs.declared.Sight.{Sight}
+use Rattle.mesh_draw.specs.Call.{names_mode, mode_named, numbers_good, lengths_of, flat_in, work_verdict, verdict_of, draw_left}
 use Rattle.mesh_draw.specs.Faults.{folded, tested, number_before, AllApart}
 
 -- ---- the face that is carried
 
 -- a refusal that carries a face is none of those that carry nothing: their tests were passed
-through : (b : Bool) (other : Refusal) (v : Verdict) (r : Refusal) (face : ℕ) → carried_by other ≡ [] → carried_by r ≡ face ∷ [] → unless b other v ≡ Refused r → (b ≡ true) × (v ≡ Refused r)
+through : (b : Bool) (other : Refusal) (v : Verdict) (r : Refusal) (face : ℕ) → carried_by other ≡ [] → carried_by r ≡ face ∷ [] → unless b other v ≡ Err r → (b ≡ true) × (v ≡ Err r)
 unfolding unless
 through true other v r face n c e = (refl, e)
 through false other v r face n c e = let s : other ≡ r = cc in let z : ◌≡◌ {A = ℕ} 0 1 = cc (ap carried_by s) in absurd (omega arith)
@@ -47,15 +48,15 @@ pub record Reached (vs : List Float) (is : List ℕ) (s : Sight) (faces : Verdic
   pub found : flat_in (mode_named s.number s.cosine) vs is ≡ faces
 
 module _ (vs : List Float) (is flips : List ℕ) (s : Sight) (l l' : Lent) where
-  refused-there : (why : Refusal) (face : ℕ) → carried_by why ≡ face ∷ [] → leaves (said (D.Refused why)) l' ≡ draw_left vs is flips s l → Reached vs is s (Refused why)
+  refused-there : (why : Refusal) (face : ℕ) → carried_by why ≡ face ∷ [] → leaves (refused why) l' ≡ draw_left vs is flips s l → Reached vs is s (Err why)
   unfolding draw_left laid verdict_of work_verdict
   refused-there why face c e =
-      let t : (b : Bool) (other : Refusal) (v : Verdict) → carried_by other ≡ [] → unless b other v ≡ Refused why → (b ≡ true) × (v ≡ Refused why) = λ b other v n h. through b other v why face n c h in
+      let t : (b : Bool) (other : Refusal) (v : Verdict) → carried_by other ≡ [] → unless b other v ≡ Err why → (b ≡ true) × (v ≡ Err why) = λ b other v n h. through b other v why face n c h in
       let vertex = t _ Vertex _ refl (t _ Count _ refl (t _ Shape _ refl (was_refused _ _ _ _ why l' e)).1).1 in
       let number = t _ Number _ refl vertex.1 in
       record { below = vertex.0; good = number.0; found = (t _ Room _ refl (t _ Scratch _ refl number.1).1).1 }
 
-  accepted-there : (points starts : ℕ) → leaves (said (D.Wrote points starts)) l' ≡ draw_left vs is flips s l → Reached vs is s Accepted
+  accepted-there : (points starts : ℕ) → leaves (accepted (points ∷ starts ∷ [])) l' ≡ draw_left vs is flips s l → Reached vs is s (Ok tt)
   unfolding draw_left verdict_of work_verdict
   accepted-there points starts e =
       let v = (was_accepted _ _ l' _ (points ∷ starts ∷ []) e).0 in
@@ -63,12 +64,12 @@ module _ (vs : List Float) (is flips : List ℕ) (s : Sight) (l l' : Lent) where
       let number = passed _ _ _ vertex.1 in
       record { below = vertex.0; good = number.0; found = (passed _ _ _ (passed _ _ _ number.1).1).1 }
 
-  pub face-named : (why : Refusal) (face : ℕ) → carried_by why ≡ face ∷ [] → leaves (said (D.Refused why)) l' ≡ draw_left vs is flips s l
+  pub face-named : (why : Refusal) (face : ℕ) → carried_by why ≡ face ∷ [] → leaves (refused why) l' ≡ draw_left vs is flips s l
       → FirstFault (face_at vs is) (length is / 3) face × (why ≡ flaw_of (face_at vs is face) face)
   unfolding flat_in
   face-named why face c e = go (needs_of (mode_named s.number s.cosine)).normals (refused-there why face c e).found
     where
-      go : (b : Bool) → cond b (flat_from (face_at vs is) 0 (length is / 3)) Accepted ≡ Refused why → FirstFault (face_at vs is) (length is / 3) face × (why ≡ flaw_of (face_at vs is face) face)
+      go : (b : Bool) → cond b (flat_from (face_at vs is) 0 (length is / 3)) (Ok tt) ≡ Err why → FirstFault (face_at vs is) (length is / 3) face × (why ≡ flaw_of (face_at vs is face) face)
       go true h = first-fault (face_at vs is) (length is / 3) why face c h
       go false h = let z : ◌≡◌ {A = ℕ} 0 1 = cc in absurd (omega arith)
 
@@ -90,18 +91,18 @@ module _ (vs : List Float) (is flips : List ℕ) (s : Sight) (l l' : Lent) where
       go true h = absurd (true≢false (sym (h refl) ∙ e))
 
   -- below the face that is named there is none
-  pub none-alike_below : (why : Refusal) (face : ℕ) → carried_by why ≡ face ∷ [] → leaves (said (D.Refused why)) l' ≡ draw_left vs is flips s l → AllApart vs is face
+  pub none-alike_below : (why : Refusal) (face : ℕ) → carried_by why ≡ face ∷ [] → leaves (refused why) l' ≡ draw_left vs is flips s l → AllApart vs is face
   none-alike_below why face c e f m =
       let k = (face-named why face c e).0 in
       apart (refused-there why face c e) f (omega (arith, k.inside, m)) (k.first f m)
 
   -- and none where a drawing that needs normals is accepted
-  pub none_alike : (points starts : ℕ) → leaves (said (D.Wrote points starts)) l' ≡ draw_left vs is flips s l → (needs_of (mode_named s.number s.cosine)).normals ≡ true
+  pub none_alike : (points starts : ℕ) → leaves (accepted (points ∷ starts ∷ [])) l' ≡ draw_left vs is flips s l → (needs_of (mode_named s.number s.cosine)).normals ≡ true
       → AllApart vs is (length is / 3)
   unfolding flat_in
   none_alike points starts e need f m =
       let r = accepted-there points starts e in
-      let h = subst (λ (b : Bool). cond b (flat_from (face_at vs is) 0 (length is / 3)) Accepted ≡ Accepted) need r.found in
+      let h = subst (λ (b : Bool). cond b (flat_from (face_at vs is) 0 (length is / 3)) (Ok tt) ≡ (Ok tt)) need r.found in
       apart r f m (none-flat (face_at vs is) (length is / 3) h f m)
 
 -- ---- as it was before 10
@@ -122,19 +123,19 @@ unfolding unless
 step true r v m e h = h
 step false r v m e h = e
 
-needed : (b some : Bool) (v : Verdict) → folded (verdict_said v).number ≡ cond some alike_number 0 → folded (verdict_said (cond b v Accepted)).number ≡ cond (b && some) alike_number 0
+needed : (b some : Bool) (v : Verdict) → folded (verdict_said v).number ≡ cond some alike_number 0 → folded (verdict_said (cond b v (Ok tt))).number ≡ cond (b && some) alike_number 0
 needed true some v h = h
 needed false some v h = refl
 
 module _ (vs : List Float) (is flips : List ℕ) (s : Sight) (l l' : Lent) where
-  pub as_before : (r : Drawing) → leaves (said r) l' ≡ draw_left vs is flips s l → folded (said r).number ≡ number_before vs is (length flips) s (lengths_of l)
+  pub as_before : (r : Result Place Refusal) → leaves (placed_said r) l' ≡ draw_left vs is flips s l → folded (placed_said r).number ≡ number_before vs is (length flips) s (lengths_of l)
   unfolding draw_left laid verdict_of work_verdict flat_in number_before
   as_before r e =
       let n = length is / 3 in
       let at = lengths_of l in
       let need = (needs_of (mode_named s.number s.cosine)).normals in
       let flat = flat_from (face_at vs is) 0 n in
-      let faces = cond need flat Accepted in
+      let faces = cond need flat (Ok tt) in
       let room = unless (room_for n at.points at.starts) Room faces in
       let scratch = unless (scratch_for n at.words at.seen) Scratch room in
       let numbers = unless (numbers_good vs s) Number scratch in

@@ -1,10 +1,9 @@
 -- The call: when a drawing is refused, what it answers, and what it leaves.
-use Rattle.std.specs.Prelude.{Bool, cond, ◌&&◌, List, [], ◌∷◌, ℕ, ◌/◌, ◌%◌, length, get_or, eqb, Float}
+use Rattle.std.specs.Prelude.{Ok}
+use Rattle.std.specs.Prelude.{Bool, cond, ◌&&◌, List, ℕ, ◌/◌, ◌%◌, length, get_or, eqb, Float}
 use Rattle.refusal.specs.declared.Refusal.TheVariants.{Shape, Count, Vertex, Number, Scratch, Room}
-use Rattle.refusal.specs.declared.Verdict.{Verdict}
-use Rattle.refusal.specs.declared.Verdict.TheVariants.{Accepted}
+use Rattle.refusal.specs.Refusals.{Verdict}
 use Rattle.refusal.specs.Refusals.{unless}
-use Rattle.refusal.specs.Said.{Said, accepted, refused}
 use Rattle.refusal.specs.Outcome.{Outcome, outcome}
 use Rattle.vector.specs.declared.Vector.{Vector}
 use Rattle.path.specs.Tests.{coordinates_good, tolerance_good}
@@ -13,33 +12,16 @@ use Rattle.mesh_mode.specs.declared.Mode.{Mode}
 use Rattle.mesh_mode.specs.declared.Mode.TheVariants.{Triangles}
 use Rattle.mesh_mode.specs.Modes.{needs_of, mode_of}
 use Rattle.mesh_seen.specs.Seen.{flat_from}
-use Rattle.mesh_draw.specs.declared.Drawing.{Drawing}
-use Rattle.mesh_draw.specs.declared.Drawing.TheVariants as D
+use Rattle.mesh_strokes.specs.declared.Lengths.{Lengths}
+use Rattle.mesh_draw.specs.declared.Sight.{Sight}
 use Rattle.mesh_strokes.specs.Draw.{drawing_of}
 use Rattle.mesh_strokes.specs.Call.{Lent, laid, scratch_for, room_for}
 
--- the answer as the paper reads it
-abbrev pub said : Drawing → Said ℕ
-said (D.Wrote points starts) = accepted (points ∷ starts ∷ [])
-said (D.Refused r) = refused r
-
--- how a mesh is looked at: the number of a mode and its cosine, the eye, the tolerance
-pub record Sight : Type 0 where
-  pub number : ℕ
-  pub cosine : Float
-  pub eye : Vector
-  pub tolerance : Float
-
+-- how a mesh is looked at
 abbrev pub sight : ℕ → Float → Vector → Float → Sight
 sight n cosine eye tolerance = record { number = n; cosine = cosine; eye = eye; tolerance = tolerance }
 
 -- how long the lists are that are lent
-pub record Lengths : Type 0 where
-  pub words : ℕ
-  pub seen : ℕ
-  pub points : ℕ
-  pub starts : ℕ
-
 abbrev pub lengths : ℕ → ℕ → ℕ → ℕ → Lengths
 lengths words seen points starts = record { words = words; seen = seen; points = points; starts = starts }
 
@@ -63,7 +45,7 @@ numbers_good vs s = coordinates_good vs && names_mode s.number s.cosine && vecto
 
 -- where a mode needs normals, the first face that has none is refused
 unfoldable pub flat_in : Mode → List Float → List ℕ → Verdict
-flat_in mode vs is = cond (needs_of mode).normals (flat_from (face_at vs is) 0 (length is / 3)) Accepted
+flat_in mode vs is = cond (needs_of mode).normals (flat_from (face_at vs is) 0 (length is / 3)) (Ok tt)
 
 -- the tests of what a drawing works with and on
 unfoldable pub work_verdict : List Float → List ℕ → Sight → Lengths → Verdict

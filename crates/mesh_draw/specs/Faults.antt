@@ -9,7 +9,9 @@ use Rattle.mesh_mode.specs.Modes.{needs_of}
 use Rattle.mesh_seen.specs.Normals.{alike_of}
 use Rattle.mesh_seen.specs.Faults.{some_flat}
 use Rattle.mesh_strokes.specs.Call.{scratch_for, room_for}
-use Rattle.mesh_draw.specs.Call.{Sight, Lengths, mode_named, paired, numbers_good}
+use Rattle.mesh_draw.specs.declared.Sight.{Sight}
+use Rattle.mesh_strokes.specs.declared.Lengths.{Lengths}
+use Rattle.mesh_draw.specs.Call.{mode_named, paired, numbers_good}
 
 -- 10 read as 7
 abbrev pub folded : ℕ → ℕ

@@ -1,3 +1,4 @@
 pub mod Call
+pub mod InnerMode
 pub mod Faults
 pub mod Unsaid

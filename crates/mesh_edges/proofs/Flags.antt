@@ -2,14 +2,13 @@
 use mathlib.Core.Path.{◌≡◌, refl, sym, ap, ◌∙◌}
 use mathlib.Core.Bool.{Bool, true, false, cond, ◌&&◌, ◌||◌}
 use mathlib.Core.Logic.{◌⊎◌, inl, inr, ◌≢◌}
-use mathlib.Core.List.{List, [], ◌∷◌, map}
+use mathlib.Core.List.{List, [], ◌∷◌, ◌++◌, map}
 use Prim.Native.Nat.{ℕ, zero, suc, ◌+◌, ◌*◌, ◌/◌, ◌<◌, ◌≤◌}
 use native.Mathlib.Omega.{arith}
-use native.Mathlib.Numerals.{add-one}
 use native.Mathlib.Decide.{ℕ_discrete}
 use lib.Dec.{eqb}
-use lib.ListN.{length, get_or, set, drop, replicate, length-set, length-drop, length-replicate, get_or-replicate, get_or-eq_default}
-use lib.Seq.{get_or-set_same, get_or-set_other, drop-cons, ext_get_or}
+use lib.ListN.{length, get_or, set, replicate, length-set, length-replicate, get_or-replicate, get_or-eq_default}
+use lib.Seq.{get_or-set_same, get_or-set_other, ext_get_or}
 use Rattle.order.proofs.Tests.{truth, clash, eqb-false, eqb-self, le-or}
 use Rattle.mesh_edges.specs.Edges.{face_of, up_from, edges_of}
 use Rattle.mesh_edges.specs.Flips.{flipped}
@@ -143,20 +142,18 @@ all_at m fs f k h z = go (get_or m k 0) refl
     go (suc l) e = all_on m fs f k l h e ∙ ap (cond (flipped (face_of k) (face_of l) fs) 1) z
 
 -- one pair after the other, until none is left
-pub all_turn : (m fs f : List ℕ) (i : ℕ) → i + 2 ≤ length fs → flag_all m (drop i fs) f ≡ flag_all m (drop (i + 2) fs) (flag_pair m (get_or fs i 0) (get_or fs (i + 1) 0) f)
+pub all_turn : (m pair fs f : List ℕ) → length pair ≡ 2 → flag_all m (pair ++ fs) f ≡ flag_all m fs (flag_pair m (get_or pair 0 0) (get_or pair 1 0) f)
 unfolding flag_all
-all_turn m fs f i h =
-    let e : suc (i + 1) ≡ i + 2 = omega arith in
-    rw (drop-cons fs i 0 (omega arith), ← add-one i, drop-cons fs (i + 1) 0 (omega arith), e)
+all_turn m [] fs f h = absurd (omega arith)
+all_turn m (x ∷ []) fs f h = absurd (omega arith)
+all_turn m (x ∷ y ∷ []) fs f h = refl
+all_turn m (x ∷ y ∷ z ∷ s) fs f h = absurd (omega arith)
 
 pub all_short : (m fs f : List ℕ) → length fs < 2 → flag_all m fs f ≡ f
 unfolding flag_all
 all_short m [] f h = refl
 all_short m (x ∷ []) f h = refl
 all_short m (x ∷ y ∷ fs) f h = absurd (omega arith)
-
-pub all_end : (m fs f : List ℕ) (i : ℕ) → length fs < i + 2 → flag_all m (drop i fs) f ≡ f
-all_end m fs f i h = all_short m (drop i fs) f (omega (arith, length-drop i fs))
 
 -- all flags of a mesh
 pub flags_are : (is flips : List ℕ) (n : ℕ) → flag_all (marks (edges_of is) (replicate n 0)) flips (replicate n 0) ≡ map (flag_of is flips) (up_from 0 n)

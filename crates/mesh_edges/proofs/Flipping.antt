@@ -2,16 +2,16 @@
 use mathlib.Core.Path.{◌≡◌, refl, sym, ap, ◌∙◌}
 use mathlib.Core.Bool.{true, false}
 use mathlib.Core.Logic.{inl, inr}
-use mathlib.Core.List.{List}
+use mathlib.Core.List.{List, ◌++◌}
 use Prim.Native.Nat.{ℕ, ◌+◌, ◌-◌, ◌*◌, ◌/◌, ◌<◌, ◌≤◌}
 use native.Mathlib.Omega.{arith}
 use lib.Dec.{eqb}
-use lib.ListN.{length, get_or, set, drop, replicate, length-replicate, get_or-eq_default}
+use lib.ListN.{length, get_or, set, replicate, length-replicate, get_or-eq_default}
 use Rattle.order.specs.Regions.{region, put, Into}
 use Rattle.order.proofs.Parts.{length-region, get_region, region-put, region-off, put-region, put-put, put-comm, set-put, into_none}
 use Rattle.mesh_edges.specs.InnerSteps.{mate_on, flag_at, flag_pair, flag_all, marks}
 use Rattle.mesh_edges.proofs.Mates.{marks-size}
-use Rattle.mesh_edges.proofs.Flags.{mate_off, mate_is, mate_within, flag_yes, flag_no, flag_length, pair_length, all_turn, all_end, all_short, all_length}
+use Rattle.mesh_edges.proofs.Flags.{mate_off, mate_is, mate_within, flag_yes, flag_no, flag_length, pair_length, all_turn, all_short, all_length}
 
 -- one side
 module _ (s : List ℕ) (n : ℕ) (H : 5 * n ≤ length s) (k y : ℕ) where
@@ -71,32 +71,29 @@ three-sides s n H x y a b c p q r =
     let e : b ≡ put s (4 * n) F2 = step s n H a F1 l1 p (λ m g. flag_at m y (3 * x + 1) g) (λ m g. flag_length m y (3 * x + 1) g) b q in
     step s n H b F2 l2 e (λ m g. flag_at m y (3 * x + 2) g) (λ m g. flag_length m y (3 * x + 2) g) c r
 
--- pair after pair
+-- pair after pair, where `rest` is what is left of the list
 module _ (s₀ : List ℕ) (n : ℕ) (H : 5 * n ≤ length s₀) (flips : List ℕ) where
-  abbrev pub Flagging : List ℕ → ℕ → Type 0
-  Flagging s i = Into s₀ s (4 * n) n (λ f. flag_all (region s₀ (3 * n) n) (drop i flips) f ≡ flag_all (region s₀ (3 * n) n) flips (region s₀ (4 * n) n))
+  abbrev pub Flagging : List ℕ → List ℕ → Type 0
+  Flagging s rest = Into s₀ s (4 * n) n (λ f. flag_all (region s₀ (3 * n) n) rest f ≡ flag_all (region s₀ (3 * n) n) flips (region s₀ (4 * n) n))
 
-  abbrev P : ℕ → List ℕ → Type 0
-  P i f = flag_all (region s₀ (3 * n) n) (drop i flips) f ≡ flag_all (region s₀ (3 * n) n) flips (region s₀ (4 * n) n)
+  pub flagging : Flagging s₀ flips
+  flagging = into_none s₀ (4 * n) n (λ f. flag_all (region s₀ (3 * n) n) flips f ≡ flag_all (region s₀ (3 * n) n) flips (region s₀ (4 * n) n)) (omega arith) refl
 
-  pub flagging : Flagging s₀ 0
-  flagging = into_none s₀ (4 * n) n (P 0) (omega arith) refl
-
-  pub flagging_more : (s : List ℕ) (i : ℕ) → Flagging s i → i + 2 ≤ length flips → (s' : List ℕ)
-      → s' ≡ put s (4 * n) (flag_pair (region s (3 * n) n) (get_or flips i 0) (get_or flips (i + 1) 0) (region s (4 * n) n)) → Flagging s' (i + 2)
-  flagging_more s i I h s' e =
-      let x = get_or flips i 0 in
-      let y = get_or flips (i + 1) 0 in
+  pub flagging_more : (s rest : List ℕ) → Flagging s rest → (pair rest' : List ℕ) → rest ≡ pair ++ rest' → length pair ≡ 2 → (s' : List ℕ)
+      → s' ≡ put s (4 * n) (flag_pair (region s (3 * n) n) (get_or pair 0 0) (get_or pair 1 0) (region s (4 * n) n)) → Flagging s' rest'
+  flagging_more s rest I pair rest' q two s' e =
+      let x = get_or pair 0 0 in
+      let y = get_or pair 1 0 in
       let M = region s₀ (3 * n) n in
       record {
         l = flag_pair M x y I.l;
         size = pair_length M x y I.l ∙ I.size;
         is = step s₀ n H s I.l I.size I.is (λ m g. flag_pair m x y g) (λ m g. pair_length m x y g) s' e;
-        ok = sym (all_turn M flips I.l i h) ∙ I.ok;
+        ok = sym (all_turn M pair rest' I.l two) ∙ ap (λ (fs : List ℕ). flag_all M fs I.l) (sym q) ∙ I.ok;
       }
 
-  pub flagging_all : (s : List ℕ) (i : ℕ) → Flagging s i → length flips < i + 2 → s ≡ put s₀ (4 * n) (flag_all (region s₀ (3 * n) n) flips (region s₀ (4 * n) n))
-  flagging_all s i I h = I.is ∙ ap (put s₀ (4 * n)) (sym (all_end (region s₀ (3 * n) n) flips I.l i h) ∙ I.ok)
+  pub flagging_all : (s rest : List ℕ) → Flagging s rest → length rest < 2 → s ≡ put s₀ (4 * n) (flag_all (region s₀ (3 * n) n) flips (region s₀ (4 * n) n))
+  flagging_all s rest I h = I.is ∙ ap (put s₀ (4 * n)) (sym (all_short (region s₀ (3 * n) n) rest I.l h) ∙ I.ok)
 
 -- with the mates before and cleared after
 module _ (s : List ℕ) (n : ℕ) (H : 5 * n ≤ length s) (flips : List ℕ) where

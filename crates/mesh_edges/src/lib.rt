@@ -1,4 +1,6 @@
-// The edges of a mesh as words of scratch: its sides by their pairs, and which edges of two faces are flipped.
+// The edges of a mesh as words of scratch: its sides by their pairs, and which edges of two faces are flipped. The words and the number of
+// sides stay two parameters: a struct of both would hold a `&mut` and be made anew for each call, and one of the counts alone would leave as
+// many clauses, that the words are as long as it says.
 #![tactic(auto)]
 
 ghost use Rattle.std.specs.Prelude.{◌≡◌, ◌+◌, ◌-◌, ◌*◌, ◌<◌, ◌≤◌, length, get_or, replicate};
@@ -11,7 +13,7 @@ ghost use Rattle.mesh_edges.specs.InnerSteps.{sides_to, by_pairs, plain_words, B
 use order::{clear, sort_words};
 use refusal::MOST_FACES;
 
-// The word at place i, 0 past the end.
+// The word at place i, 0 past the end. It is no one function with order's `word_at`, whose place is a word: `n + i` may not fit one.
 fn word_in(s: &[u32], i: usize) -> u64
     ensures { (result ≡ get_or s.now i 0) × (result < 4294967296) }
 {
@@ -38,15 +40,13 @@ fn group_end(s: &[u32], n: usize, p: usize) -> usize
     ensures { result ≡ end_in s.now n p }
 {
     let v = pair_at(s, n, s[2 * n + p]);
-    let mut q = p + 1;
-    while q < n {
+    for q in p + 1..n {
         let w = pair_at(s, n, s[2 * n + q]);
         if v != w {
             return q;
         }
-        q += 1;
     }
-    q
+    n
 }
 
 // Where the edge of the side at place p ends; p itself where no such side is.
@@ -104,12 +104,10 @@ fn fill_sides(indices: &[u32], s: &mut [u32], n: usize)
     requires { (5 * n ≤ length s.old) × (n ≤ 3 * most_faces) }
     ensures { s.new ≡ sides_to s.old indices.now n n }
 {
-    let mut k: usize = 0;
-    while k < n {
+    for k in 0..n {
         s[k] = low_of(indices, k);
         s[n + k] = high_of(indices, k);
         s[2 * n + k] = k as u32;
-        k += 1;
     }
 }
 
@@ -155,6 +153,7 @@ fn write_mates(s: &mut [u32], n: usize)
     requires below { Below s.old n }
     ensures { s.new ≡ put s.old (3 * n) (marks (groups_of (pair_in s.old n) (region s.old (2 * n) n)) (region s.old (3 * n) n)) }
 {
+    // a `while`, as it steps from edge to edge
     let mut p: usize = 0;
     while p < n {
         let q = edge_end(s, n, p);
@@ -204,10 +203,8 @@ fn walk_flips(flips: &[u32], s: &mut [u32], n: usize)
     requires { 5 * n ≤ length s.old }
     ensures { s.new ≡ put s.old (4 * n) (flag_all (region s.old (3 * n) n) flips.now (region s.old (4 * n) n)) }
 {
-    let mut i: usize = 0;
-    while 2 <= flips.len() - i {
-        flag_pair(s, n, flips[i], flips[i + 1]);
-        i += 2;
+    for pair in flips.chunks_exact(2) {
+        flag_pair(s, n, pair[0], pair[1]);
     }
 }
 

@@ -8,9 +8,8 @@ use native.Mathlib.Numerals.{add-one}
 use lib.ListN.{length, get_or, take, drop, length-drop}
 use lib.Seq.{drop-cons, take_all}
 use lib.Ieee.{Float, binary64, sub, lt}
-use Rattle.vector.specs.Lengths.{zero64, one64}
-use Rattle.mesh_mode.specs.declared.Mode.{Mode}
-use Rattle.mesh_mode.specs.declared.Mode.TheVariants.{Triangles, Polygonal, Silhouette}
+use Rattle.vector.specs.Lengths.{one64}
+use Rattle.mesh_mode.specs.declared.Mode.TheVariants.{Polygonal, Silhouette}
 use Rattle.mesh_keep.specs.Keep.{Seen, turn_of, some_turns, two_kept, kept_by, faces_of}
 
 pub or_yes : (b r : Bool) → b ≡ true → true ≡ (b || r)
@@ -85,15 +84,3 @@ module _ (s : Seen) where
   any_tolerance flip cosine a b (f ∷ []) = refl
   any_tolerance flip cosine a b (f ∷ g ∷ []) = refl
   any_tolerance flip cosine a b (f ∷ g ∷ h ∷ fs) = refl
-
--- ---- by the mode that was told
-module _ (mode : Mode) (s : Seen) (flip : Bool) (tolerance : Float) (fs : List ℕ) where
-  pub told-triangles : mode ≡ Triangles → true ≡ kept_by mode s flip tolerance fs
-  unfolding kept_by
-  told-triangles e = ap (λ (m : Mode). kept_by m s flip tolerance fs) (sym e)
-
-  pub told-polygonal : mode ≡ Polygonal → kept_by Polygonal s false tolerance fs ≡ kept_by mode s flip tolerance fs
-  told-polygonal e = any_flip s flip tolerance fs ∙ ap (λ (m : Mode). kept_by m s flip tolerance fs) (sym e)
-
-  pub told-silhouette : (cosine : Float) → mode ≡ Silhouette cosine → kept_by (Silhouette cosine) s flip zero64 fs ≡ kept_by mode s flip tolerance fs
-  told-silhouette cosine e = any_tolerance s flip cosine zero64 tolerance fs ∙ ap (λ (m : Mode). kept_by m s flip tolerance fs) (sym e)

@@ -21,12 +21,10 @@ fn turn(seen: &[f64], f: u32, g: u32) -> f64
 fn some_turns(seen: &[f64], sides: &[u32], f: u32, tolerance: f64) -> bool
     ensures { result ≡ some_turns (seen_in seen.now) tolerance f (faces_of sides.now) }
 {
-    let mut i: usize = 0;
-    while i < sides.len() {
-        if turn(seen, f, sides[i] / 3) < 1.0 - tolerance {
+    for side in sides {
+        if turn(seen, f, *side / 3) < 1.0 - tolerance {
             return true;
         }
-        i += 1;
     }
     false
 }
@@ -82,6 +80,7 @@ fn silhouette_kept(seen: &[f64], sides: &[u32], flip: bool, cos_theta: f64) -> b
 }
 
 // Whether a mode keeps the edge of these sides; whether its two faces are flipped is handed in.
+#[tactic(auto, unfolding(crate::specs::Keep::kept_by), using(crate::proofs::Keeps::any_flip, crate::proofs::Keeps::any_tolerance))]
 pub fn kept(mode: Mode, seen: &[f64], sides: &[u32], flip: bool, tolerance: f64) -> bool
     ensures { result ≡ kept_by mode (seen_in seen.now) flip tolerance (faces_of sides.now) }
 {

@@ -1,18 +1,14 @@
 -- A mode that is answered is told by what is said of it.
-use mathlib.Core.Path.{◌≡◌, sym, ap}
+use mathlib.Core.Path.{◌≡◌}
 use Prim.Native.Nat.{ℕ}
 use lib.Ieee.{Float}
+use Rattle.std.specs.Prelude.{Result}
+use Rattle.refusal.specs.declared.Refusal.{Refusal}
+use Rattle.refusal.specs.Said.{value_said}
 use Rattle.refusal.specs.One.{One}
-use Rattle.refusal.proofs.Unique.{one-refusal, never_both, same-values, one-read}
-use Rattle.mesh_mode.specs.declared.Moded.{Moded}
-use Rattle.mesh_mode.specs.declared.Moded.TheVariants.{Of, Refused}
-use Rattle.mesh_mode.specs.Modes.{mode_of, mode_said}
+use Rattle.refusal.proofs.Unique.{one-value, one-read}
+use Rattle.mesh_mode.specs.declared.Mode.{Mode}
+use Rattle.mesh_mode.specs.Modes.{mode_of}
 
-told : (r t : Moded) → mode_said r ≡ mode_said t → r ≡ t
-told (Of m) (Of n) e = let h = same-values e in cc
-told (Of m) (Refused t) e = absurd (never_both _ t e)
-told (Refused r) (Of n) e = absurd (never_both _ r (sym e))
-told (Refused r) (Refused t) e = ap Refused (one-refusal r t e)
-
-pub one-mode : (n : ℕ) (c : Float) → One Moded (λ r. mode_said r ≡ mode_of n c)
-one-mode n c = one-read mode_said told (mode_of n c)
+pub one-mode : (n : ℕ) (c : Float) → One (Result Mode Refusal) (λ r. value_said r ≡ mode_of n c)
+one-mode n c = one-read value_said one-value (mode_of n c)

@@ -6,19 +6,12 @@ use Rattle.refusal.specs.declared.Refusal.TheVariants.{Number}
 use Rattle.mesh_mode.specs.declared.Mode.{Mode}
 use Rattle.mesh_mode.specs.declared.Mode.TheVariants.{Triangles, Polygonal, Silhouette}
 use Rattle.mesh_mode.specs.declared.Needs.{Needs}
-use Rattle.mesh_mode.specs.declared.Moded.{Moded}
-use Rattle.mesh_mode.specs.declared.Moded.TheVariants as M
 
 -- what a mode needs of a mesh: normals, so that no face may be flat; the list of flips
 abbrev pub needs_of : Mode → Needs
 needs_of Triangles = record { normals = false; flips = false }
 needs_of Polygonal = record { normals = true; flips = false }
 needs_of (Silhouette c) = record { normals = true; flips = true }
-
--- the answer as the paper reads it
-abbrev pub mode_said : Moded → Said Mode
-mode_said (M.Of m) = accepted (m ∷ [])
-mode_said (M.Refused r) = refused r
 
 -- the number that a mode number stands for: 0, where nobody says a mode, for polygonal, each other for itself
 abbrev pub meant : ℕ → ℕ

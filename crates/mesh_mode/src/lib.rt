@@ -1,14 +1,15 @@
-// The mode of a drawing, and the numbers that stand for one.
+// The mode of a drawing, and the numbers that stand for one: those that C and a sheet have.
 #![tactic(auto)]
 
 ghost use Rattle.std.specs.Prelude.{◌≡◌};
-ghost use Rattle.mesh_mode.specs.Modes.{needs_of, meant as meant_by, mode_by, mode_of, mode_said};
+ghost use Rattle.refusal.specs.Said.{value_said};
+ghost use Rattle.mesh_mode.specs.Modes.{needs_of, meant as meant_by, mode_by, mode_of};
 
 use refusal::Refusal;
 
 // What is drawn of a mesh: all edges; those where faces turn; those where what is seen of the mesh ends, with the least cosine
 // at which an edge is no crease.
-#[derive(Clone, Copy)]
+#[derive(Clone, Copy, Debug, PartialEq)]
 pub enum Mode {
     Triangles,
     Polygonal,
@@ -16,17 +17,10 @@ pub enum Mode {
 }
 
 // What a mode needs of a mesh: normals, so that no face may be flat; the list of flips.
-#[derive(Clone, Copy)]
+#[derive(Clone, Copy, Debug, PartialEq, Eq)]
 pub struct Needs {
     pub normals: bool,
     pub flips: bool,
-}
-
-// A mode, or the refusal.
-#[derive(Clone, Copy)]
-pub enum Moded {
-    Of(Mode),
-    Refused(Refusal),
 }
 
 // What each mode needs: a row a mode, and no other place tells the modes apart but the rules of keeping.
@@ -60,27 +54,25 @@ pub fn meant(number: u32) -> u32
 }
 
 // The mode of a number that is said.
-fn mode_by(number: u32, cos_theta: f64) -> Moded
-    ensures { mode_said result ≡ mode_by number cos_theta }
+#[tactic(auto, using(crate::proofs::Modes::no_mode))]
+fn mode_by(number: u32, cos_theta: f64) -> Result<Mode, Refusal>
+    ensures { value_said result ≡ mode_by number cos_theta }
 {
-    if number == 1 {
-        return Moded::Of(Mode::Triangles);
+    match number {
+        1 => Ok(Mode::Triangles),
+        2 => Ok(Mode::Polygonal),
+        3 => Ok(Mode::Silhouette(cos_theta)),
+        _ => Err(Refusal::Number),
     }
-    if number == 2 {
-        return Moded::Of(Mode::Polygonal);
-    }
-    if number == 3 {
-        return Moded::Of(Mode::Silhouette(cos_theta));
-    }
-    Moded::Refused(Refusal::Number)
 }
 
 // The mode that a number stands for, where the cosine is a number, which is tested even where the mode has none.
-pub fn mode_of(number: u32, cos_theta: f64) -> Moded
-    ensures { mode_said result ≡ mode_of number cos_theta }
+#[tactic(auto, unfolding(crate::specs::Modes::mode_of))]
+pub fn mode_of(number: u32, cos_theta: f64) -> Result<Mode, Refusal>
+    ensures { value_said result ≡ mode_of number cos_theta }
 {
     if cos_theta == cos_theta {
         return mode_by(meant(number), cos_theta);
     }
-    Moded::Refused(Refusal::Number)
+    Err(Refusal::Number)
 }

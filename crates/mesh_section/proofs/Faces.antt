@@ -1,4 +1,5 @@
 -- The loop over the faces, and what a section has been tested for.
+use Rattle.std.specs.Prelude.{Ok, Option, Some, None}
 use mathlib.Core.Path.{◌≡◌, refl, sym, ap, ◌∙◌}
 use mathlib.Core.Bool.{true}
 use mathlib.Core.List.{List, [], ◌∷◌}
@@ -7,9 +8,8 @@ use native.Mathlib.Omega.{arith}
 use lib.ListN.{length, set, length-append}
 use lib.Dec.{leb}
 use lib.Ieee.{Float}
-use borrow.Author.Tests.{leb-true, le-leb}
+use borrow.Author.Tests.{leb-true}
 use Rattle.refusal.specs.Limits.{most_faces, most_vertices}
-use Rattle.refusal.specs.declared.Verdict.TheVariants.{Accepted}
 use Rattle.vector.specs.declared.Vector.{Vector}
 use Rattle.path.specs.declared.Place.{Place}
 use Rattle.path.specs.Laid.{joined, non_empty}
@@ -17,25 +17,23 @@ use Rattle.path.specs.InnerPushes.{out, push, put_point, put_points}
 use Rattle.path.proofs.Pushes.{no_more_kept}
 use Rattle.path.proofs.Tests.{passed, both}
 use Rattle.mesh.specs.declared.Triangle.{Triangle}
-use Rattle.mesh.specs.Meshes.{counted_of, reach_of}
+use Rattle.mesh.specs.Meshes.{counted_of, all_below}
 use Rattle.mesh_section.specs.declared.Plane.{Plane}
-use Rattle.mesh_section.specs.declared.Cut.{Cut}
-use Rattle.mesh_section.specs.declared.Cut.TheVariants.{Of, Nothing}
 use Rattle.mesh_section.specs.Section.{triangle_cut, cut_stroke, faces_cut}
 use Rattle.mesh_section.specs.Call.{room_for, verdict_of}
 
 -- a cut written
-pub written : (op op₁ op₂ : List Float) (os os₁ : List ℕ) (p : Place) (c : Cut) (v w : Vector) → c ≡ Of v w
+pub written : (op op₁ op₂ : List Float) (os os₁ : List ℕ) (p : Place) (c : Option (Vector × Vector)) (v w : Vector) → c ≡ Some (v, w)
     → os₁ ≡ set os p.starts p.points → op₁ ≡ put_point op p.points v → op₂ ≡ put_point op₁ (p.points + 1) w
     → out op₂ os₁ (record { points = p.points + 2; starts = p.starts + 1 }) ≡ push put_points (out op os p) (cut_stroke c)
-unfolding push put_points cut_stroke
+unfolding push put_points
 written op op₁ op₂ os os₁ p c v w e es e₁ e₂ =
-    let h : out op₂ os₁ (record { points = p.points + 2; starts = p.starts + 1 }) ≡ push put_points (out op os p) (cut_stroke (Of v w)) = rw (← es, ← e₁, ← e₂) in
-    h ∙ ap (λ (x : Cut). push put_points (out op os p) (cut_stroke x)) (sym e)
+    let h : out op₂ os₁ (record { points = p.points + 2; starts = p.starts + 1 }) ≡ push put_points (out op os p) (cut_stroke (Some (v, w))) = rw (← es, ← e₁, ← e₂) in
+    h ∙ ap (λ (x : Option (Vector × Vector)). push put_points (out op os p) (cut_stroke x)) (sym e)
 
-pub unwritten : (op : List Float) (os : List ℕ) (p : Place) (c : Cut) → c ≡ Nothing → out op os p ≡ push put_points (out op os p) (cut_stroke c)
-unfolding push cut_stroke
-unwritten op os p c e = ap (λ (x : Cut). push put_points (out op os p) (cut_stroke x)) (sym e)
+pub unwritten : (op : List Float) (os : List ℕ) (p : Place) (c : Option (Vector × Vector)) → c ≡ None → out op os p ≡ push put_points (out op os p) (cut_stroke c)
+unfolding push
+unwritten op os p c e = ap (λ (x : Option (Vector × Vector)). push put_points (out op os p) (cut_stroke x)) (sym e)
 
 module _ (at : ℕ → Triangle) (p : Plane) (tolerance : Float) where
   -- the faces from f on, of n
@@ -47,10 +45,9 @@ module _ (at : ℕ → Triangle) (p : Plane) (tolerance : Float) where
   unfolding faces_cut
   faces_none f n h = let e : n - f ≡ 0 = omega arith in rw e
 
-  two-at_most : (c : Cut) → length (cut_stroke c) ≤ 2
-  unfolding cut_stroke
-  two-at_most (Of v w) = omega arith
-  two-at_most Nothing = omega arith
+  two-at_most : (c : Option (Vector × Vector)) → length (cut_stroke c) ≤ 2
+  two-at_most (Some (v, w)) = omega arith
+  two-at_most None = omega arith
 
   faces_points : (f n : ℕ) → length (joined (faces_cut at p tolerance f n)) ≤ 2 * n
   unfolding faces_cut joined
@@ -69,7 +66,7 @@ module _ (at : ℕ → Triangle) (p : Plane) (tolerance : Float) where
   faces_fit n room start_room h k =
       (omega (arith, faces_points 0 n), omega (arith, no_more_kept (faces_cut at p tolerance 0 n), faces_strokes 0 n))
 
-pub fitting : (vs : List Float) (is : List ℕ) (p : Plane) (tolerance : Float) (room start_room : ℕ) → verdict_of vs is p tolerance room start_room ≡ Accepted
+pub fitting : (vs : List Float) (is : List ℕ) (p : Plane) (tolerance : Float) (room start_room : ℕ) → verdict_of vs is p tolerance room start_room ≡ (Ok tt)
     → (length is / 3 ≤ most_faces) × (length is / 3 * 6 ≤ room) × (length is / 3 ≤ start_room)
 unfolding verdict_of counted_of room_for
 fitting vs is p tolerance room start_room h =
@@ -80,10 +77,7 @@ fitting vs is p tolerance room start_room h =
     let fits = both (leb (length is / 3 * 6) room) (leb (length is / 3) start_room) (passed _ _ _ number.1).0 in
     (leb-true _ _ (both (leb (length vs / 3) most_vertices) (leb (length is / 3) most_faces) count.0).1, leb-true _ _ fits.0, leb-true _ _ fits.1)
 
--- all faces are there with all their corners
-pub reaching : (vs : List Float) (is : List ℕ) (p : Plane) (tolerance : Float) (room start_room : ℕ) → verdict_of vs is p tolerance room start_room ≡ Accepted
-    → reach_of (length vs / 3) is (length is / 3) ≡ true
-unfolding verdict_of reach_of
-reaching vs is p tolerance room start_room h =
-    let vertex = passed _ _ _ (passed _ _ _ (passed _ _ _ h).1).1 in
-    rw (le-leb (length is / 3 * 3) (length is) (omega arith), vertex.0)
+-- every index is that of a vertex
+pub below : (vs : List Float) (is : List ℕ) (p : Plane) (tolerance : Float) (room start_room : ℕ) → verdict_of vs is p tolerance room start_room ≡ (Ok tt) → all_below (length vs / 3) is ≡ true
+unfolding verdict_of
+below vs is p tolerance room start_room h = (passed _ _ _ (passed _ _ _ (passed _ _ _ h).1).1).0

@@ -1,3 +1,4 @@
 pub mod Hits
 pub mod Faces
+pub mod Verdicts
 pub mod Unique

@@ -1,5 +1,5 @@
 -- The section of a mesh by a plane, as the source's intersect_segment and intersect_triangle.
-use Rattle.std.specs.Prelude.{Bool, cond, ◌&&◌, List, [], ◌∷◌, ℕ, zero, suc, ◌+◌, ◌/◌, length, Float}
+use Rattle.std.specs.Prelude.{Bool, cond, ◌&&◌, List, [], ◌∷◌, ℕ, zero, suc, ◌+◌, ◌/◌, length, Float, Option, Some, None}
 use Rattle.std.specs.Float.{binary64}
 use Rattle.std.specs.Float.Ieee.{div, lt, le, neg}
 use Rattle.vector.specs.declared.Vector.{Vector}
@@ -8,10 +8,6 @@ use Rattle.vector.specs.Lengths.{zero64, one64}
 use Rattle.mesh.specs.declared.Triangle.{Triangle}
 use Rattle.mesh.specs.Meshes.{face_at}
 use Rattle.mesh_section.specs.declared.Plane.{Plane}
-use Rattle.mesh_section.specs.declared.Hit.{Hit}
-use Rattle.mesh_section.specs.declared.Hit.TheVariants as H
-use Rattle.mesh_section.specs.declared.Cut.{Cut}
-use Rattle.mesh_section.specs.declared.Cut.TheVariants as C
 
 -- a share that lies on the segment
 abbrev pub within : Float → Bool
@@ -28,27 +24,27 @@ rise_of p v0 v1 = dot_of p.normal (sub_of v1 v0)
 abbrev pub share_of : Plane → Vector → Vector → Float
 share_of p v0 v1 = div binary64 (neg (dot_of p.normal (sub_of v0 p.point))) (rise_of p v0 v1)
 
-unfoldable pub segment_hit : Plane → Float → Vector → Vector → Hit
+unfoldable pub segment_hit : Plane → Float → Vector → Vector → Option Vector
 segment_hit p tolerance v0 v1 =
-    cond (runs_along tolerance (rise_of p v0 v1)) H.Nothing
-    (cond (within (share_of p v0 v1)) (H.At (add_of v0 (mul_scalar_of (sub_of v1 v0) (share_of p v0 v1)))) H.Nothing)
+    cond (runs_along tolerance (rise_of p v0 v1)) None
+    (cond (within (share_of p v0 v1)) (Some (add_of v0 (mul_scalar_of (sub_of v1 v0) (share_of p v0 v1)))) None)
 
 -- the first two of three hits
-unfoldable pub two_of : Hit → Hit → Hit → Cut
-two_of (H.At a) (H.At b) h = C.Of a b
-two_of (H.At a) H.Nothing (H.At c) = C.Of a c
-two_of (H.At a) H.Nothing H.Nothing = C.Nothing
-two_of H.Nothing (H.At b) (H.At c) = C.Of b c
-two_of H.Nothing (H.At b) H.Nothing = C.Nothing
-two_of H.Nothing H.Nothing h = C.Nothing
+unfoldable pub two_of : Option Vector → Option Vector → Option Vector → Option (Vector × Vector)
+two_of (Some a) (Some b) h = Some (a, b)
+two_of (Some a) None (Some c) = Some (a, c)
+two_of (Some a) None None = None
+two_of None (Some b) (Some c) = Some (b, c)
+two_of None (Some b) None = None
+two_of None None h = None
 
 -- the sides 12, 23, 31
-unfoldable pub triangle_cut : Plane → Float → Triangle → Cut
+unfoldable pub triangle_cut : Plane → Float → Triangle → Option (Vector × Vector)
 triangle_cut p tolerance t = two_of (segment_hit p tolerance t.v1 t.v2) (segment_hit p tolerance t.v2 t.v3) (segment_hit p tolerance t.v3 t.v1)
 
-unfoldable pub cut_stroke : Cut → List Vector
-cut_stroke (C.Of a b) = a ∷ b ∷ []
-cut_stroke C.Nothing = []
+abbrev pub cut_stroke : Option (Vector × Vector) → List Vector
+cut_stroke (Some (a, b)) = a ∷ b ∷ []
+cut_stroke None = []
 
 -- the strokes of the n faces from f on, an empty one for a face that is not cut
 unfoldable pub faces_cut : (ℕ → Triangle) → Plane → Float → ℕ → ℕ → List (List Vector)

@@ -1,4 +1,5 @@
 -- The definitions over faces, a face at a time, and what is read back of what was stored.
+use Rattle.std.specs.Prelude.{Ok}
 use mathlib.Core.Path.{◌≡◌, refl, ap, ◌∙◌, subst}
 use mathlib.Core.Logic.{◌⊎◌, inl, ⊎_elim}
 use mathlib.Core.Bool.{true, false}
@@ -8,7 +9,6 @@ use native.Mathlib.Omega.{arith}
 use lib.ListN.{length, get_or, set, length-set}
 use lib.Seq.{get_or-set_same, get_or-set_other}
 use lib.Ieee.{Float, nan}
-use Rattle.refusal.specs.declared.Verdict.TheVariants.{Accepted}
 use Rattle.refusal.specs.Refusals.{unless}
 use Rattle.vector.specs.declared.Vector.{Vector}
 use Rattle.vector.specs.Vectors.{sub_of, dot_of}
@@ -23,11 +23,11 @@ module _ (at : ℕ → Triangle) where
   unfolding flat_from face_verdict unless
   flat-more f n h e = let k : n - f ≡ suc (n - (f + 1)) = omega arith in rw (k, e)
 
-  pub flat-found : (f n : ℕ) → f < n → flat_of (at f) ≡ true → flat_from at f (n - f) ≡ face_verdict (at f) f Accepted
+  pub flat-found : (f n : ℕ) → f < n → flat_of (at f) ≡ true → flat_from at f (n - f) ≡ face_verdict (at f) f (Ok tt)
   unfolding flat_from face_verdict unless
   flat-found f n h e = let k : n - f ≡ suc (n - (f + 1)) = omega arith in rw (k, e)
 
-  pub flat-none : (f n : ℕ) → n ≤ f → flat_from at f (n - f) ≡ Accepted
+  pub flat-none : (f n : ℕ) → n ≤ f → flat_from at f (n - f) ≡ (Ok tt)
   unfolding flat_from
   flat-none f n h = let k : n - f ≡ 0 = omega arith in rw k
 

@@ -1,5 +1,5 @@
 -- The normal of a face, why a face has none, and what an eye sees of it.
-use Rattle.std.specs.Prelude.{Bool, cond, ◌||◌, [], ◌∷◌, ℕ, Float}
+use Rattle.std.specs.Prelude.{Bool, cond, ◌||◌, [], ◌∷◌, ℕ, Float, Result, Ok, Err}
 use Rattle.std.specs.Float.Ieee.{eq}
 use Rattle.refusal.specs.declared.Refusal.{Refusal}
 use Rattle.refusal.specs.declared.Refusal.TheVariants as R
@@ -9,8 +9,8 @@ use Rattle.vector.specs.declared.Vector.{Vector}
 use Rattle.vector.specs.Vectors.{sub_of, cross_of, div_scalar_of, dot_of, equal_of}
 use Rattle.vector.specs.Lengths.{zero64, length_of}
 use Rattle.mesh.specs.declared.Triangle.{Triangle}
-use Rattle.mesh_seen.specs.declared.FaceNormal.{FaceNormal}
-use Rattle.mesh_seen.specs.declared.FaceNormal.TheVariants as N
+use Rattle.mesh_seen.specs.declared.Flat.{Flat}
+use Rattle.mesh_seen.specs.declared.Flat.TheVariants.{Alike, NoLength}
 
 -- (v2 - v1) cross (v3 - v1)
 abbrev pub across_of : Triangle → Vector
@@ -37,10 +37,10 @@ unfoldable pub normal_of : Triangle → Vector
 normal_of t = normalized (normalized (across_of t))
 
 -- the answer of `normal` as the paper reads it: which face it is, its caller knows
-abbrev pub normal_said : FaceNormal → Said Vector
-normal_said (N.Of v) = accepted (v ∷ [])
-normal_said N.Alike = numbered alike_number
-normal_said N.NoLength = numbered no_length_number
+abbrev pub normal_said : Result Vector Flat → Said Vector
+normal_said (Ok v) = accepted (v ∷ [])
+normal_said (Err Alike) = numbered alike_number
+normal_said (Err NoLength) = numbered no_length_number
 
 -- first whether the length is 0, then which kind
 unfoldable pub normal_found : Triangle → Said Vector

@@ -1,8 +1,8 @@
 -- The first flat face, and what is kept of each face while a mesh is drawn: four numbers a face, its normal and its dot with the eye.
+use Rattle.std.specs.Prelude.{Ok}
 use Rattle.std.specs.Prelude.{not, cond, List, ℕ, zero, suc, ◌+◌, ◌*◌, ◌/◌, length, get_or, set, Float}
 use Rattle.std.specs.Float.{nan}
-use Rattle.refusal.specs.declared.Verdict.{Verdict}
-use Rattle.refusal.specs.declared.Verdict.TheVariants.{Accepted}
+use Rattle.refusal.specs.Refusals.{Verdict}
 use Rattle.refusal.specs.Refusals.{unless}
 use Rattle.vector.specs.declared.Vector.{Vector}
 use Rattle.mesh.specs.declared.Triangle.{Triangle}
@@ -15,12 +15,12 @@ face_verdict t f next = unless (not (flat_of t)) (flaw_of t f) next
 
 -- of the n faces from f on the first that is flat decides, whichever kind it is
 unfoldable pub flat_from : (ℕ → Triangle) → ℕ → ℕ → Verdict
-flat_from at f zero = Accepted
+flat_from at f zero = (Ok tt)
 flat_from at f (suc n) = face_verdict (at f) f (flat_from at (f + 1) n)
 
 -- the verdict on the first n faces, where all their corners are there
 unfoldable pub flat_verdict : List Float → List ℕ → ℕ → Verdict
-flat_verdict vs is n = cond (reach_of (length vs / 3) is n) (flat_from (face_at vs is) 0 n) Accepted
+flat_verdict vs is n = cond (reach_of (length vs / 3) is n) (flat_from (face_at vs is) 0 n) (Ok tt)
 
 -- the four numbers of face t stored as those of face f; past the end nothing
 unfoldable pub put_seen : Vector → Triangle → List Float → ℕ → List Float

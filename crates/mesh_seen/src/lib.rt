@@ -1,22 +1,20 @@
 // The first face that has no normal, and what is kept of each face while a mesh is drawn: its normal, and how it faces the eye.
 #![tactic(auto)]
 
-ghost use Rattle.std.specs.Prelude.{◌≡◌, true, ◌/◌, ◌<◌, length, get_or};
-ghost use Rattle.mesh.specs.Meshes.{corner_at, face_at, reach_of};
-ghost use Rattle.refusal.specs.declared.Verdict.TheVariants.{Accepted};
+ghost use Rattle.std.specs.Prelude.{◌≡◌, Ok, ◌*◌, ◌≤◌, length};
+ghost use Rattle.mesh.specs.Meshes.{face_at};
 ghost use Rattle.refusal.specs.Said.{verdict_said};
 ghost use Rattle.mesh_seen.specs.Normals.{across_of, flat_of, alike_of, normal_of, normal_said, normal_found};
 ghost use Rattle.mesh_seen.specs.Seen.{face_verdict, flat_from, flat_verdict, put_seen, seen_from, seen_all, normal_at, facing_at};
 
-use mesh::{Triangle, reaches};
+use mesh::{Mesh, Triangle, reaches};
 use path::{number_at, put};
-use refusal::{Refusal, Verdict};
+use refusal::Refusal;
 use vector::Vector;
 
-// The normal of a face; or none, since two corners compare equal; or none of three different corners.
-#[derive(Clone, Copy)]
-pub enum FaceNormal {
-    Of(Vector),
+// Why a face has no normal: two corners compare equal; or three different corners have none.
+#[derive(Clone, Copy, Debug, PartialEq, Eq)]
+pub enum Flat {
     Alike,
     NoLength,
 }
@@ -36,16 +34,11 @@ fn is_flat(t: Triangle) -> bool
 }
 
 // Whether two corners of a face compare equal.
+#[tactic(auto, unfolding(crate::specs::Normals::alike_of, vector::specs::Vectors::equal_of))]
 fn is_alike(t: Triangle) -> bool
     ensures { result ≡ alike_of t }
 {
-    if t.v1.equal(t.v2) {
-        return true;
-    }
-    if t.v1.equal(t.v3) {
-        return true;
-    }
-    t.v2.equal(t.v3)
+    t.v1 == t.v2 || t.v1 == t.v3 || t.v2 == t.v3
 }
 
 // The cross product normalised twice, as the source's `normal` and its callers do; of a flat face no number comes out.
@@ -58,80 +51,53 @@ fn twice_normalized(t: Triangle) -> Vector
 }
 
 // The normal of a face, or why it has none.
-pub fn normal(t: Triangle) -> FaceNormal
+#[tactic(auto, unfolding(crate::specs::Normals::normal_found))]
+pub fn normal(t: Triangle) -> Result<Vector, Flat>
     ensures { normal_said result ≡ normal_found t }
 {
     if !is_flat(t) {
-        return FaceNormal::Of(twice_normalized(t));
+        return Ok(twice_normalized(t));
     }
     if is_alike(t) {
-        return FaceNormal::Alike;
+        return Err(Flat::Alike);
     }
-    FaceNormal::NoLength
+    Err(Flat::NoLength)
 }
 
 // The verdict on face f, by what its normal answers.
-fn face_verdict(t: Triangle, f: u32) -> Verdict
-    ensures { result ≡ face_verdict t f Accepted }
+fn face_verdict(t: Triangle, f: u32) -> Result<(), Refusal>
+    ensures { result ≡ face_verdict t f (Ok tt) }
 {
     match normal(t) {
-        FaceNormal::Of(_) => Verdict::Accepted,
-        FaceNormal::Alike => Verdict::Refused(Refusal::Alike(f)),
-        FaceNormal::NoLength => Verdict::Refused(Refusal::NoLength(f)),
-    }
-}
-
-// Corner k, which is there: nothing is tested.
-fn corner_in(vertices: &[f64], indices: &[u32], k: usize) -> Vector
-    requires { (k < length indices.now) × (get_or indices.now k 0 < length vertices.now / 3) }
-    ensures { result ≡ corner_at vertices.now indices.now k }
-{
-    let i = indices[k] as usize * 3;
-    Vector {
-        x: vertices[i],
-        y: vertices[i + 1],
-        z: vertices[i + 2],
-    }
-}
-
-// The corners of face f of the first n, which are there.
-fn face_in(vertices: &[f64], indices: &[u32], n: u32, f: u32) -> Triangle
-    requires f_lt_n { f < n }
-    requires n_value { reach_of (length vertices.now / 3) indices.now n ≡ true }
-    ensures { result ≡ face_at vertices.now indices.now f }
-{
-    let k = f as usize * 3;
-    Triangle {
-        v1: corner_in(vertices, indices, k),
-        v2: corner_in(vertices, indices, k + 1),
-        v3: corner_in(vertices, indices, k + 2),
+        Ok(_) => Ok(()),
+        Err(Flat::Alike) => Err(Refusal::Alike(f)),
+        Err(Flat::NoLength) => Err(Refusal::NoLength(f)),
     }
 }
 
 // The verdict on the first n faces, which are there: the first that has no normal decides.
-fn flat_among(vertices: &[f64], indices: &[u32], n: u32) -> Verdict
-    requires { reach_of (length vertices.now / 3) indices.now n ≡ true }
-    ensures { result ≡ flat_from (face_at vertices.now indices.now) 0 n }
+fn flat_among(mesh: Mesh, n: u32) -> Result<(), Refusal>
+    requires { n * 3 ≤ length mesh.indices.now }
+    ensures { result ≡ flat_from (face_at mesh.entry.vertices.now mesh.entry.indices.now) 0 n }
 {
-    let mut f: u32 = 0;
-    while f < n {
-        let t = face_in(vertices, indices, n, f);
+    for f in 0..n {
+        let t = mesh.face(f);
         if is_flat(t) {
             return face_verdict(t, f);
         }
-        f += 1;
     }
-    Verdict::Accepted
+    Ok(())
 }
 
 // The verdict on the first n faces, where all their corners are there.
-pub fn flat_verdict(vertices: &[f64], indices: &[u32], n: u32) -> Verdict
+#[tactic(auto, using(mesh::proofs::Tests::reached), unfolding(crate::specs::Seen::flat_verdict))]
+pub fn flat_verdict(vertices: &[f64], indices: &[u32], n: u32) -> Result<(), Refusal>
     ensures { verdict_said result ≡ verdict_said (flat_verdict vertices.now indices.now n) }
 {
     if !reaches(indices, vertices.len() / 3, n) {
-        return Verdict::Accepted;
+        return Ok(());
     }
-    flat_among(vertices, indices, n)
+    flat_among(Mesh { vertices, indices }, n)
 }
 
 // Stores the normal of face f and its dot with eye minus the face's first corner.
@@ -147,24 +113,23 @@ fn put_seen(t: Triangle, eye: Vector, out: &mut [f64], f: u32)
 }
 
 // Stores what is seen of the first n faces, which are there, four numbers each.
-fn see_in(vertices: &[f64], indices: &[u32], eye: Vector, n: u32, out: &mut [f64])
-    requires { reach_of (length vertices.now / 3) indices.now n ≡ true }
-    ensures { out.new ≡ seen_from eye (face_at vertices.now indices.now) 0 n out.old }
+fn see_in(mesh: Mesh, eye: Vector, n: u32, out: &mut [f64])
+    requires { n * 3 ≤ length mesh.indices.now }
+    ensures { out.new ≡ seen_from eye (face_at mesh.entry.vertices.now mesh.entry.indices.now) 0 n out.old }
 {
-    let mut f: u32 = 0;
-    while f < n {
-        put_seen(face_in(vertices, indices, n, f), eye, out, f);
-        f += 1;
+    for f in 0..n {
+        put_seen(mesh.face(f), eye, out, f);
     }
 }
 
 // Stores what is seen of the first n faces where all their corners are there, and otherwise nothing. One test of all
 // serves every face.
+#[tactic(auto, using(mesh::proofs::Tests::reached), unfolding(crate::specs::Seen::seen_all))]
 pub fn see(vertices: &[f64], indices: &[u32], eye: Vector, n: u32, out: &mut [f64])
     ensures { out.new ≡ seen_all eye vertices.now indices.now n out.old }
 {
     if reaches(indices, vertices.len() / 3, n) {
-        see_in(vertices, indices, eye, n, out);
+        see_in(Mesh { vertices, indices }, eye, n, out);
     }
 }
 

@@ -1,4 +1,3 @@
-pub mod Tests
 pub mod Walks
 pub mod Seens
 pub mod Steps

@@ -14,7 +14,7 @@ ghost use Rattle.mesh_strokes.specs.Draw.{drawing_of};
 ghost use Rattle.mesh_strokes.specs.InnerWalk.{Room, Listed, flip_at, with_pair, written, edge_kept, KeptIn, look_in, flips_for, Fitting};
 ghost use Rattle.mesh_strokes.specs.Call.{scratch_for, room_for, fits as fits_of, left, strokes_left};
 
-use mesh::all_below;
+use mesh::{Mesh, all_below};
 use mesh_edges::{edge_end, edges};
 use mesh_keep::kept;
 use mesh_mode::{Mode, needs_of};
@@ -25,7 +25,8 @@ use path_splice::splice_pairs;
 use refusal::MOST_FACES;
 use vector::Vector;
 
-// Whether the mode keeps the edge of the sides at the places from p up to q.
+// Whether the mode keeps the edge of the sides at the places from p up to q. (Mode, seen and tolerance are handed on as they are: a struct
+// of them would be taken apart again at the next call.)
 fn keeps(mode: Mode, seen: &[f64], s: &[u32], n: usize, tolerance: f64, p: usize, q: usize) -> bool
     requires room { Room s.now n }
     requires p_lt_q { (p < q) × (q ≤ n) × (get_or s.now (2 * n + p) 0 < n) }
@@ -84,6 +85,7 @@ fn keep_edges(mode: Mode, seen: &[f64], indices: &[u32], s: &mut [u32], toleranc
 {
     let mut p: usize = 0;
     let mut m: usize = 0;
+    // A `while`: p steps from the first side of an edge to that of the next.
     while p < indices.len() {
         let q = edge_end(s, indices.len(), p);
         m = keep_edge(mode, seen, s, indices.len(), tolerance, p, q, m);
@@ -93,15 +95,14 @@ fn keep_edges(mode: Mode, seen: &[f64], indices: &[u32], s: &mut [u32], toleranc
 }
 
 // Stores what is seen of the faces where the mode needs their normals.
-fn look(mode: Mode, vertices: &[f64], indices: &[u32], eye: Vector, seen: &mut [f64])
-    requires indices_len_bound { length indices.now / 3 ≤ most_faces }
-    requires indices_value { all_below (length vertices.now / 3) indices.now ≡ true }
-    ensures { seen.new ≡ look_in mode eye vertices.now indices.now seen.old }
+fn look(mode: Mode, mesh: Mesh, eye: Vector, seen: &mut [f64])
+    requires { length mesh.indices.now / 3 ≤ most_faces }
+    ensures { seen.new ≡ look_in mode eye mesh.entry.vertices.now mesh.entry.indices.now seen.old }
 {
-    let n = (indices.len() / 3) as u32;
+    let n = (mesh.indices.len() / 3) as u32;
     let needs = needs_of(mode);
     if needs.normals {
-        see(vertices, indices, eye, n, seen);
+        see(mesh.vertices, mesh.indices, eye, n, seen);
     }
 }
 
@@ -119,8 +120,7 @@ fn list_edges(mode: Mode, indices: &[u32], flips: &[u32], s: &mut [u32])
 
 // Draws into room that is there: the sides by their pairs, the kept edges after them, spliced.
 fn draw_in(
-    vertices: &[f64],
-    indices: &[u32],
+    mesh: Mesh,
     flips: &[u32],
     mode: Mode,
     eye: Vector,
@@ -130,19 +130,19 @@ fn draw_in(
     out_points: &mut [u32],
     out_starts: &mut [u32],
 ) -> Place
-    requires fitting { Fitting indices.now (length scratch.old) (length seen.old) (length out_points.old) (length out_starts.old) }
-    requires indices_value { all_below (length vertices.now / 3) indices.now ≡ true }
-    ensures { LaidOut (drawing_of mode eye tolerance flips.now vertices.now indices.now) out_points.old out_starts.old
+    requires { Fitting mesh.indices.now (length scratch.old) (length seen.old) (length out_points.old) (length out_starts.old) }
+    ensures { LaidOut (drawing_of mode eye tolerance flips.now mesh.entry.vertices.now mesh.entry.indices.now) out_points.old out_starts.old
         out_points.new out_starts.new result.points result.starts }
 {
-    look(mode, vertices, indices, eye, seen);
-    list_edges(mode, indices, flips, scratch);
-    let m = keep_edges(mode, seen, indices, scratch, tolerance);
-    let a = 5 * indices.len();
+    look(mode, mesh, eye, seen);
+    list_edges(mode, mesh.indices, flips, scratch);
+    let m = keep_edges(mode, seen, mesh.indices, scratch, tolerance);
+    let a = 5 * mesh.indices.len();
     splice_pairs(&mut scratch[a..], m, out_points, out_starts)
 }
 
 // Whether there are 64 words and 4 numbers of scratch a face.
+#[tactic(auto, unfolding(crate::specs::Call::scratch_for))]
 pub fn scratch_for(faces: usize, words: usize, numbers: usize) -> bool
     ensures { result ≡ scratch_for faces words numbers }
 {
@@ -153,6 +153,7 @@ pub fn scratch_for(faces: usize, words: usize, numbers: usize) -> bool
 }
 
 // Whether there is room for 6 points and 3 starts a face.
+#[tactic(auto, unfolding(crate::specs::Call::room_for))]
 pub fn room_for(faces: usize, room: usize, start_room: usize) -> bool
     ensures { result ≡ room_for faces room start_room }
 {
@@ -162,9 +163,19 @@ pub fn room_for(faces: usize, room: usize, start_room: usize) -> bool
     faces <= start_room / 3
 }
 
+// How long the lists are that a drawing is lent: words and numbers of scratch, and the room for points and for starts.
+#[derive(Clone, Copy, Debug, PartialEq, Eq)]
+pub struct Lengths {
+    pub words: usize,
+    pub seen: usize,
+    pub points: usize,
+    pub starts: usize,
+}
+
 // Whether so many indices are faces, not too many, and all has room.
-fn fits(indices: usize, words: usize, numbers: usize, room: usize, start_room: usize) -> bool
-    ensures { result ≡ fits_of indices words numbers room start_room }
+#[tactic(auto, unfolding(crate::specs::Call::fits))]
+fn fits(indices: usize, lengths: Lengths) -> bool
+    ensures { result ≡ fits_of indices lengths.words lengths.seen lengths.points lengths.starts }
 {
     if indices % 3 != 0 {
         return false;
@@ -172,24 +183,17 @@ fn fits(indices: usize, words: usize, numbers: usize, room: usize, start_room: u
     if MOST_FACES < indices / 3 {
         return false;
     }
-    if !scratch_for(indices / 3, words, numbers) {
+    if !scratch_for(indices / 3, lengths.words, lengths.seen) {
         return false;
     }
-    room_for(indices / 3, room, start_room)
+    room_for(indices / 3, lengths.points, lengths.starts)
 }
 
 // Whether all has room, and with so many numbers of vertices every index is that of a vertex.
-fn ready(
-    vertices: usize,
-    indices: &[u32],
-    words: usize,
-    numbers: usize,
-    room: usize,
-    start_room: usize,
-) -> bool
-    ensures { result ≡ (fits_of (length indices.now) words numbers room start_room && all_below (vertices / 3) indices.now) }
+fn ready(vertices: usize, indices: &[u32], lengths: Lengths) -> bool
+    ensures { result ≡ (fits_of (length indices.now) lengths.words lengths.seen lengths.points lengths.starts && all_below (vertices / 3) indices.now) }
 {
-    if !fits(indices.len(), words, numbers, room, start_room) {
+    if !fits(indices.len(), lengths) {
         return false;
     }
     all_below(indices, vertices / 3)
@@ -213,21 +217,21 @@ pub fn draw_strokes(
         ≡ strokes_left vertices.now indices.now flips.now mode eye tolerance
         scratch.old seen.old out_points.old out_starts.old }
 {
-    if !ready(
-        vertices.len(),
-        indices,
-        scratch.len(),
-        seen.len(),
-        out_points.len(),
-        out_starts.len(),
-    ) {
+    let lengths = Lengths {
+        words: scratch.len(),
+        seen: seen.len(),
+        points: out_points.len(),
+        starts: out_starts.len(),
+    };
+    if !ready(vertices.len(), indices, lengths) {
         return Place {
             points: 0,
             starts: 0,
         };
     }
+    let mesh = Mesh { vertices, indices };
     let p = draw_in(
-        vertices, indices, flips, mode, eye, tolerance, scratch, seen, out_points, out_starts,
+        mesh, flips, mode, eye, tolerance, scratch, seen, out_points, out_starts,
     );
     clear(scratch);
     clear_numbers(seen);

@@ -1,4 +1,5 @@
 -- What an accepted weld has been tested for, and what it leaves.
+use Rattle.std.specs.Prelude.{Ok}
 use mathlib.Core.Path.{◌≡◌, ◌∙◌}
 use mathlib.Core.List.{List, [], ◌∷◌}
 use Prim.Native.Nat.{ℕ, ◌*◌, ◌/◌, ◌%◌, ◌≤◌}
@@ -8,7 +9,6 @@ use lib.Ieee.{Float}
 use borrow.Author.Tests.{leb-true, eqb-true}
 use Rattle.refusal.specs.Limits.{most_faces}
 use Rattle.refusal.specs.Said.{Said, accepted}
-use Rattle.refusal.specs.declared.Verdict.TheVariants.{Accepted}
 use Rattle.path.proofs.Tests.{passed}
 use Rattle.path.proofs.Pushes.{over-sets}
 use Rattle.mesh_weld.specs.Weld.{weld_of}
@@ -16,7 +16,7 @@ use Rattle.mesh_weld.specs.Call.{lent_verdict, verdict_of, left, welded}
 use Rattle.mesh_weld.specs.InnerTable.{Laid}
 
 -- what an accepted call has been tested for
-pub fitting : (cs : List Float) (w r n : ℕ) → verdict_of cs w r n ≡ Accepted
+pub fitting : (cs : List Float) (w r n : ℕ) → verdict_of cs w r n ≡ (Ok tt)
     → (length cs % 9 ≡ 0) × (length cs / 9 ≤ most_faces) × (length cs / 9 * 12 ≤ w) × (length cs / 9 * 9 ≤ r) × (length cs / 9 * 3 ≤ n)
 unfolding verdict_of lent_verdict
 fitting cs w r n h =
@@ -31,7 +31,7 @@ fitting cs w r n h =
 same_left : {r q : Said ℕ} {s t : List ℕ} {vs us : List Float} {is js : List ℕ} → r ≡ q → s ≡ t → vs ≡ us → is ≡ js → left r s vs is ≡ left q t us js
 same_left a b c d = cc
 
-pub all_welded : (cs : List Float) (s : List ℕ) (vs : List Float) (is s' : List ℕ) (vs' : List Float) (is' : List ℕ) (k : ℕ) → verdict_of cs (length s) (length vs) (length is) ≡ Accepted
+pub all_welded : (cs : List Float) (s : List ℕ) (vs : List Float) (is s' : List ℕ) (vs' : List Float) (is' : List ℕ) (k : ℕ) → verdict_of cs (length s) (length vs) (length is) ≡ (Ok tt)
     → Laid cs vs is vs' is' k → s' ≡ replicate (length s) 0 → left (accepted (k ∷ length cs / 3 ∷ [])) s' vs' is' ≡ welded cs s vs is
 unfolding welded
 all_welded cs s vs is s' vs' is' k z d g =

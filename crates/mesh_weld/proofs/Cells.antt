@@ -1,5 +1,5 @@
 -- Cells as numbers that are counted up.
-use mathlib.Core.Path.{◌≡◌, refl, sym, ap, ◌∙◌}
+use mathlib.Core.Path.{subst, ◌≡◌, refl, sym, ap, ◌∙◌}
 use mathlib.Core.Bool.{Bool, true, false, cond}
 use Prim.Native.Nat.{ℕ, zero, suc, ◌+◌, ◌-◌, ◌*◌, ◌/◌, ◌^◌, ◌≤◌, ◌<◌}
 use native.Mathlib.Omega.{arith}
@@ -19,6 +19,7 @@ use Rattle.refusal.specs.Said.{Said, accepted, refused}
 use Rattle.refusal.specs.declared.Refusal.TheVariants.{Number}
 use Rattle.vector.specs.Floor.{floor_of, whole_below}
 use Rattle.mesh_weld.specs.Weld.{cell, same, side}
+use Rattle.mesh_weld.specs.declared.Cube.{Cube}
 use Rattle.mesh_weld.specs.InnerTable.{count, key, cube_of, Counted}
 
 pub plus : (z : ℤ) → nat_abs z ≤ 2 ^ 53 → z +ℤ pos (2 ^ 54) ≡ pos (count z)
@@ -156,3 +157,6 @@ cell-told x r e = ap whole e
 pub cube-counted : (p : Vector) → Counted (cube_of p)
 unfolding cube_of
 cube-counted p = record { x_low = key-pos p.x; x_high = key-lt p.x; y_low = key-pos p.y; y_high = key-lt p.y; z_low = key-pos p.z; z_high = key-lt p.z }
+
+pub counted-at : (p : Vector) {c : Cube} → c ≡ cube_of p → Counted c
+counted-at p e = subst Counted (sym e) (cube-counted p)

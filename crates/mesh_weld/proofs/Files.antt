@@ -1,4 +1,5 @@
 -- What reading tests and welds, by the coordinates of the file.
+use Rattle.std.specs.Prelude.{Ok}
 use mathlib.Core.Path.{◌≡◌, refl, ap, ◌∙◌}
 use mathlib.Core.Bool.{Bool, true, false, ◌&&◌}
 use mathlib.Core.List.{List}
@@ -8,7 +9,6 @@ use lib.ListN.{length}
 use lib.Dec.{leb}
 use Rattle.refusal.specs.Limits.{most_faces}
 use Rattle.refusal.specs.declared.Refusal.TheVariants.{Count, Number}
-use Rattle.refusal.specs.declared.Verdict.TheVariants.{Accepted}
 use Rattle.refusal.specs.Refusals.{unless}
 use Rattle.path.specs.Strokes.{gather}
 use Rattle.path.specs.Tests.{most_coordinate, within_of, all_within, coordinates_good}
@@ -71,6 +71,6 @@ read_by bs words room numbers f e z = rw (z, e) (verdict_by_faces bs words room 
 
 -- ---- what an accepted reading has been tested for
 
-pub read_fitting : (bs : List ℕ) (words room numbers : ℕ) → read_verdict bs words room numbers ≡ Accepted → verdict_of (coordinates_in bs) words room numbers ≡ Accepted
+pub read_fitting : (bs : List ℕ) (words room numbers : ℕ) → read_verdict bs words room numbers ≡ (Ok tt) → verdict_of (coordinates_in bs) words room numbers ≡ (Ok tt)
 unfolding read_verdict
 read_fitting bs words room numbers h = (passed _ _ _ h).1

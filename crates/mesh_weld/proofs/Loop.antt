@@ -14,14 +14,13 @@ use Rattle.mesh_weld.specs.InnerTable.{Laid}
 use lib.IntN.{ℤ, suc_ℤ, pred_ℤ}
 use lib.Ieee.{Float, nan}
 use Rattle.vector.specs.declared.Vector.{Vector}
-use Rattle.mesh_weld.specs.declared.Found.{Found}
-use Rattle.mesh_weld.specs.declared.Found.TheVariants.{At, Nothing}
+use Rattle.std.specs.Prelude.{Option, Some, None}
 use Rattle.mesh_weld.specs.Weld.{cell, in_cell, near, find_in, three, find, Merged, join_as, join, weld_to, weld_of}
 use Rattle.mesh_weld.specs.InnerTable.{coarse_at, Table, grown, corner_number, more_of, Placed}
 use Rattle.mesh_weld.proofs.Finds.{oldest-cong}
 
 -- a search reads no more than the k vertices
-three-cong : (f g : ℤ → Found) (z : ℤ) → ((a : ℤ) → f a ≡ g a) → three f z ≡ three g z
+three-cong : (f g : ℤ → Option ℕ) (z : ℤ) → ((a : ℤ) → f a ≡ g a) → three f z ≡ three g z
 unfolding three
 three-cong f g z e = rw (e (pred_ℤ z), e z, e (suc_ℤ z))
 
@@ -107,10 +106,10 @@ module _ (cs vs₀ : List Float) (is₀ : List ℕ) (m i k : ℕ) (s : List ℕ)
     abbrev w : Merged
     w = weld_to cs i
 
-    go : (f : Found) → weld_to cs (i + 1) ≡ join_as w (point_at cs i) f → vs' ≡ grown vs k (point_at cs i) f → is' ≡ set is i (corner_number k f) → r ≡ more_of k f
+    go : (f : Option ℕ) → weld_to cs (i + 1) ≡ join_as w (point_at cs i) f → vs' ≡ grown vs k (point_at cs i) f → is' ≡ set is i (corner_number k f) → r ≡ more_of k f
         → Built cs vs₀ is₀ m (i + 1) s' vs' is' r
     unfolding join_as put_point
-    go (At v) e ev ei er =
+    go (Some v) e ev ei er =
         let ec : (weld_to cs (i + 1)).count ≡ w.count = ap (λ (x : Merged). x.count) e in
         let ex : (weld_to cs (i + 1)).vertices ≡ w.vertices = ap (λ (x : Merged). x.vertices) e in
         let en : (weld_to cs (i + 1)).indices ≡ w.indices ++ v ∷ [] = ap (λ (x : Merged). x.indices) e in
@@ -123,7 +122,7 @@ module _ (cs vs₀ : List Float) (is₀ : List ℕ) (m i k : ℕ) (s : List ℕ)
           indices = ei ∙ ap (λ (l : List ℕ). set l i v) b.indices ∙ one_more is₀ w.indices i v b.long ∙ ap (sets is₀ 0) (sym en);
           table = q.table;
         }
-    go Nothing e ev ei er =
+    go None e ev ei er =
         let p = point_at cs i in
         let ec : (weld_to cs (i + 1)).count ≡ w.count + 1 = ap (λ (x : Merged). x.count) e in
         let ex : (weld_to cs (i + 1)).vertices ≡ w.vertices ++ p.x ∷ p.y ∷ p.z ∷ [] = ap (λ (x : Merged). x.vertices) e in

@@ -10,8 +10,7 @@ use lib.Seq.{get_or-set_same, get_or-set_other}
 use lib.Ieee.{Float, nan}
 use Rattle.vector.specs.declared.Vector.{Vector}
 use Rattle.mesh_weld.specs.declared.Cube.{Cube}
-use Rattle.mesh_weld.specs.declared.Found.{Found}
-use Rattle.mesh_weld.specs.declared.Found.TheVariants.{At, Nothing}
+use Rattle.std.specs.Prelude.{Option, Some, None}
 use Rattle.mesh_weld.specs.Weld.{find}
 use Rattle.mesh_weld.specs.InnerTable.{cube_of, coarse_of, coarse_at, Hung, Ready, Placed}
 use Rattle.mesh_weld.proofs.Trees.{table_more}
@@ -57,15 +56,15 @@ module _ (vs : List Float) (k : ℕ) (p : Vector) (h : k * 3 + 2 < length vs) wh
 
 -- a corner that is found, and one that is new
 module _ (s : List ℕ) (vs : List Float) (is : List ℕ) (m k i : ℕ) (p : Vector) (r : Ready s vs m k) where
-  pub old : (v : ℕ) (f : Found) → f ≡ At v → f ≡ find vs k p → Placed vs is m k i p s vs (set is i v) k
-  old v f e d = let o : find vs k p ≡ At v = sym d ∙ e in record { vertices = rw o; indices = rw o; count = rw o; table = r.table }
+  pub old : (v : ℕ) (f : Option ℕ) → f ≡ Some v → f ≡ find vs k p → Placed vs is m k i p s vs (set is i v) k
+  old v f e d = let o : find vs k p ≡ Some v = sym d ∙ e in record { vertices = rw o; indices = rw o; count = rw o; table = r.table }
 
-  pub new : (f : Found) → f ≡ Nothing → f ≡ find vs k p → (q : Cube) → q ≡ coarse_of (cube_of p) → (h : k * 3 + 2 < length vs) → (s' : List ℕ) → Hung s m k q s'
+  pub new : (f : Option ℕ) → f ≡ None → f ≡ find vs k p → (q : Cube) → q ≡ coarse_of (cube_of p) → (h : k * 3 + 2 < length vs) → (s' : List ℕ) → Hung s m k q s'
       → (vs' : List Float) → vs' ≡ put_point vs k p
       → Placed vs is m k i p s' vs' (set is i k) (k + 1)
   unfolding put_point
   new f e d q eq h s' hung vs' ev =
-      let o : find vs k p ≡ Nothing = sym d ∙ e in
+      let o : find vs k p ≡ None = sym d ∙ e in
       let a : q ≡ coarse_at (put vs k p h) k = eq ∙ sym (coarse_at_lem vs k p h) in
       record {
         vertices = rw o ev;

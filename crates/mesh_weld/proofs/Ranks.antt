@@ -11,8 +11,7 @@ use lib.Ieee.{Float}
 use borrow.Author.Tests.{eqb-true, eqb-false, eq-eqb, leb-true, leb-false, lt-ltb, le-ltb, ltb-true, ltb-false}
 use Rattle.vector.specs.declared.Vector.{Vector}
 use Rattle.mesh_weld.specs.declared.Cube.{Cube}
-use Rattle.mesh_weld.specs.declared.Found.{Found}
-use Rattle.mesh_weld.specs.declared.Found.TheVariants.{At, Nothing}
+use Rattle.std.specs.Prelude.{Option, Some, None}
 use Rattle.mesh_weld.specs.Weld.{near, or_else, oldest, find}
 use Rattle.mesh_weld.specs.InnerTable.{key, cube_of, Counted, place_of, rank_of, score_of, top, score_at, Least, About}
 use Rattle.mesh_weld.proofs.Finds.{hits, look_in, three_of, find-by}
@@ -48,23 +47,23 @@ worth p c v i = go (near p v) refl
 
 -- ---- the first found among places from a to b, of k numbers with scores s
 module _ (s : ℕ → ℕ) where
-  abbrev Among : ℕ → ℕ → ℕ → Found → Type 0
-  Among k a b (At i) = (i < k) × (a ≤ s i) × (s i < b) × ((j : ℕ) → j < k → a ≤ s j → s i ≤ s j)
-  Among k a b Nothing = (j : ℕ) → j < k → a ≤ s j → b ≤ s j
+  abbrev Among : ℕ → ℕ → ℕ → Option ℕ → Type 0
+  Among k a b (Some i) = (i < k) × (a ≤ s i) × (s i < b) × ((j : ℕ) → j < k → a ≤ s j → s i ≤ s j)
+  Among k a b None = (j : ℕ) → j < k → a ≤ s j → b ≤ s j
 
-  among_or : (k a b d : ℕ) (f g : Found) → a ≤ b → b ≤ d → Among k a b f → Among k b d g → Among k a d (or_else f g)
+  among_or : (k a b d : ℕ) (f g : Option ℕ) → a ≤ b → b ≤ d → Among k a b f → Among k b d g → Among k a d (or_else f g)
   unfolding or_else
-  among_or k a b d (At i) g ab bd h l = (h.0, h.1, omega (arith, h.2), h.3)
-  among_or k a b d Nothing (At i) ab bd h l = (l.0, omega (arith, l.1), l.2, λ j m e. l.3 j m (h j m e))
-  among_or k a b d Nothing Nothing ab bd h l = λ j m e. l j m (h j m e)
+  among_or k a b d (Some i) g ab bd h l = (h.0, h.1, omega (arith, h.2), h.3)
+  among_or k a b d None (Some i) ab bd h l = (l.0, omega (arith, l.1), l.2, λ j m e. l.3 j m (h j m e))
+  among_or k a b d None None ab bd h l = λ j m e. l j m (h j m e)
 
   -- one place, whose numbers are those of q
   module _ (q : ℕ → Bool) (a b : ℕ) where
-    more : (k : ℕ) (f : Found) → (q k ≡ true → s k ≡ a + k) → (q k ≡ false → a ≤ s k → b ≤ s k)
+    more : (k : ℕ) (f : Option ℕ) → (q k ≡ true → s k ≡ a + k) → (q k ≡ false → a ≤ s k → b ≤ s k)
         → ((i : ℕ) → i < k → q i ≡ true → s i ≡ a + i) → ((i : ℕ) → i < k → q i ≡ false → a ≤ s i → b ≤ s i)
-        → a + k < b → Among k a b f → (t : Bool) → q k ≡ t → Among (suc k) a b (or_else f (cond t (At k) Nothing))
+        → a + k < b → Among k a b f → (t : Bool) → q k ≡ t → Among (suc k) a b (or_else f (cond t (Some k) None))
     unfolding or_else
-    more k (At i) y n ys ns l h t e = (omega (arith, h.0), h.1, h.2, λ j m d. go j d (eqb j k) refl m)
+    more k (Some i) y n ys ns l h t e = (omega (arith, h.0), h.1, h.2, λ j m d. go j d (eqb j k) refl m)
       where
         is : s i ≡ a + i
         is = at (q i) refl
@@ -80,12 +79,12 @@ module _ (s : ℕ → ℕ) where
         go : (j : ℕ) → a ≤ s j → (u : Bool) → eqb j k ≡ u → j < suc k → s i ≤ s j
         go j d true u m = let o = eqb-true j k u in rw o (last (q k) refl (rw o at d))
         go j d false u m = h.3 j (lt_of_le_of_ne (omega arith) (eqb-false j k u)) d
-    more k Nothing y n ys ns l h true e = (omega arith, omega (arith, y e), omega (arith, y e), λ j m d. go j d (eqb j k) refl m)
+    more k None y n ys ns l h true e = (omega arith, omega (arith, y e), omega (arith, y e), λ j m d. go j d (eqb j k) refl m)
       where
         go : (j : ℕ) → a ≤ s j → (u : Bool) → eqb j k ≡ u → j < suc k → s k ≤ s j
         go j d true u m = rw (eqb-true j k u) (omega arith)
         go j d false u m = let z = h j (lt_of_le_of_ne (omega arith) (eqb-false j k u)) d in omega (arith, y e)
-    more k Nothing y n ys ns l h false e = λ j m d. go j d (eqb j k) refl m
+    more k None y n ys ns l h false e = λ j m d. go j d (eqb j k) refl m
       where
         go : (j : ℕ) → a ≤ s j → (u : Bool) → eqb j k ≡ u → j < suc k → b ≤ s j
         go j d true u m = let o = eqb-true j k u in rw o (n e (rw o at d))
@@ -99,7 +98,7 @@ module _ (s : ℕ → ℕ) where
         more k (oldest q k) (y k (omega arith)) (n k (omega arith)) (λ i m. y i (omega arith)) (λ i m. n i (omega arith)) (omega arith)
         (among-oldest k (λ i m. y i (omega arith)) (λ i m. n i (omega arith)) (omega arith)) (q k) refl
 
-  among_three : (k a w : ℕ) (f : ℕ → Found) (z : ℕ) → Among k a (a + w) (f (z - 1)) → Among k (a + w) (a + w + w) (f z) → Among k (a + w + w) (a + w + w + w) (f (z + 1))
+  among_three : (k a w : ℕ) (f : ℕ → Option ℕ) (z : ℕ) → Among k a (a + w) (f (z - 1)) → Among k (a + w) (a + w + w) (f z) → Among k (a + w + w) (a + w + w + w) (f (z + 1))
       → Among k a (a + w + w + w) (three_of f z)
   unfolding three_of
   among_three k a w f z h l m =
@@ -198,8 +197,8 @@ module _ (vs : List Float) (k : ℕ) (p : Vector) (c : Cube) (small : k ≤ 1048
       (at 0 (c.x - 1) (omega (arith, counted.x_low)) (omega arith) _ (omega arith)) (at 1 c.x (omega arith) (omega arith) _ (omega arith)) (at 2 (c.x + 1) (omega arith) (omega arith) _ (omega arith))
 
 -- ---- the least score is the vertex found
-unfoldable pub found_at : ℕ → Found
-found_at r = cond (ltb r top) (At (r % 1048576)) Nothing
+unfoldable pub found_at : ℕ → Option ℕ
+found_at r = cond (ltb r top) (Some (r % 1048576)) None
 
 about : (vs : List Float) (p : Vector) (c : Cube) (i : ℕ) → score_at vs p c i < top → About vs c i
 unfolding score_at
@@ -229,15 +228,15 @@ module _ (vs : List Float) (p : Vector) (c : Cube) (k r : ℕ) (small : k ≤ 10
       go true t = w.all i m (about vs p c i (ltb-true _ _ t))
       go false t = omega (arith, ltb-false (score_at vs p c i) top t, w.below)
 
-  least-is : (f : Found) → Among (score_at vs p c) k 0 top f → found_at r ≡ f
+  least-is : (f : Option ℕ) → Among (score_at vs p c) k 0 top f → found_at r ≡ f
   unfolding found_at
-  least-is (At i) h =
+  least-is (Some i) h =
       let low = under i h.0 in
       let high = w.to (score_at vs p c i) (omega (arith, h.2)) (λ j m. h.3 j m (omega arith)) in
       let e : r ≡ score_at vs p c i = omega arith in
       let n = number vs p c i (omega (arith, h.0)) h.2 in
       rw (lt-ltb r top (omega (arith, h.2)), e, n)
-  least-is Nothing h =
+  least-is None h =
       let high = w.to top (omega arith) (λ j m. h j m (omega arith)) in
       rw (le-ltb r top high)
 
@@ -248,11 +247,11 @@ found vs p c k r small e counted w =
     least-is vs p c k r small w _ (among_all vs k p c small counted)
     ∙ find-by vs k p c.x c.y c.z (ap (λ (q : Cube). q.x) e) (ap (λ (q : Cube). q.y) e) (ap (λ (q : Cube). q.z) e)
 
-pub found_at_lem : (r : ℕ) → r < top → At (r % 1048576) ≡ found_at r
+pub found_at_lem : (r : ℕ) → r < top → Some (r % 1048576) ≡ found_at r
 unfolding found_at
 found_at_lem r l = rw (lt-ltb r top l)
 
-pub found_none : (r : ℕ) → top ≤ r → Nothing ≡ found_at r
+pub found_none : (r : ℕ) → top ≤ r → None ≡ found_at r
 unfolding found_at
 found_none r l = rw (le-ltb r top l)
 

@@ -1,22 +1,19 @@
 -- The call: when welding is refused, what it answers, and what it leaves.
-use Rattle.std.specs.Prelude.{List, [], ◌∷◌, ℕ, ◌*◌, ◌/◌, ◌%◌, length, replicate, leb, eqb, Float}
+use Rattle.std.specs.Prelude.{Result, Ok, List, [], ◌∷◌, ℕ, ◌*◌, ◌/◌, ◌%◌, length, replicate, leb, eqb, Float}
 use Rattle.refusal.specs.declared.Refusal.TheVariants.{Shape, Count, Number, Scratch, Room}
-use Rattle.refusal.specs.declared.Verdict.{Verdict}
-use Rattle.refusal.specs.declared.Verdict.TheVariants.{Accepted}
-use Rattle.refusal.specs.Refusals.{unless}
+use Rattle.refusal.specs.declared.Refusal.{Refusal}
+use Rattle.refusal.specs.Refusals.{Verdict, unless}
 use Rattle.refusal.specs.Limits.{most_faces}
-use Rattle.refusal.specs.Said.{Said, accepted, refused}
+use Rattle.refusal.specs.Said.{Said, accepted, said_by}
 use Rattle.refusal.specs.Outcome.{Outcome, leaves, outcome}
 use Rattle.path.specs.Laid.{over}
 use Rattle.path.specs.Tests.{coordinates_good}
 use Rattle.mesh_weld.specs.declared.Welded.{Welded}
-use Rattle.mesh_weld.specs.declared.Welded.TheVariants as W
 use Rattle.mesh_weld.specs.Weld.{weld_of}
 
 -- the answer as the paper reads it
-abbrev pub said : Welded → Said ℕ
-said (W.Wrote vertices indices) = accepted (vertices ∷ indices ∷ [])
-said (W.Refused r) = refused r
+abbrev pub said : Result Welded Refusal → Said ℕ
+said r = said_by (λ w. w.vertices ∷ w.indices ∷ []) r
 
 -- what is lent for so many faces: 12 words of scratch, room for 3 vertices and 3 indices each
 unfoldable pub lent_verdict : ℕ → ℕ → ℕ → ℕ → Verdict
@@ -24,7 +21,7 @@ lent_verdict faces words room numbers =
     unless (leb (faces * 12) words) Scratch
     (unless (leb (faces * 9) room) Room
     (unless (leb (faces * 3) numbers) Room
-    Accepted))
+    (Ok tt)))
 
 -- nine coordinates a face
 unfoldable pub verdict_of : List Float → ℕ → ℕ → ℕ → Verdict

@@ -7,8 +7,7 @@ use Rattle.vector.specs.declared.Vector.{Vector}
 use Rattle.mesh_weld.specs.declared.Cube.{Cube}
 use Rattle.mesh_weld.specs.declared.Way.{Way}
 use Rattle.mesh_weld.specs.declared.Ways.{Ways}
-use Rattle.mesh_weld.specs.declared.Found.{Found}
-use Rattle.mesh_weld.specs.declared.Found.TheVariants.{At, Nothing}
+use Rattle.std.specs.Prelude.{Option, Some, None}
 use Rattle.mesh_weld.specs.Weld.{side, cell, near, find, weld_of}
 use Rattle.std.proofs.lemmas.List.Edits.{sets}
 
@@ -187,22 +186,19 @@ pub record Ready (s : List ℕ) (vs : List Float) (m k : ℕ) : Type 0 where
   pub table : Table s (coarse_at vs) m k
   pub room : m + k * 2 ≤ length s
   pub points : k * 3 ≤ length vs
-  pub some : 0 < m
-  pub few : m < 2 ^ 20
-  pub small : k ≤ 2 ^ 20
 
 -- what one corner changes: the vertices, its number, the count
-abbrev pub grown : List Float → ℕ → Vector → Found → List Float
-grown vs k p (At i) = vs
-grown vs k p Nothing = put_point vs k p
+abbrev pub grown : List Float → ℕ → Vector → Option ℕ → List Float
+grown vs k p (Some i) = vs
+grown vs k p None = put_point vs k p
 
-abbrev pub corner_number : ℕ → Found → ℕ
-corner_number k (At i) = i
-corner_number k Nothing = k
+abbrev pub corner_number : ℕ → Option ℕ → ℕ
+corner_number k (Some i) = i
+corner_number k None = k
 
-abbrev pub more_of : ℕ → Found → ℕ
-more_of k (At i) = k
-more_of k Nothing = k + 1
+abbrev pub more_of : ℕ → Option ℕ → ℕ
+more_of k (Some i) = k
+more_of k None = k + 1
 
 pub record Placed (vs : List Float) (is : List ℕ) (m k i : ℕ) (p : Vector) (s' : List ℕ) (vs' : List Float) (is' : List ℕ) (r : ℕ) : Type 0 where
   pub vertices : vs' ≡ grown vs k p (find vs k p)

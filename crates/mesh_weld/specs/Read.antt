@@ -1,7 +1,7 @@
 -- Reading a binary STL file: when it is refused, and what it leaves: what a weld of its corners does.
 use Rattle.std.specs.Prelude.{List, ℕ, length, Float}
 use Rattle.refusal.specs.declared.Refusal.TheVariants.{Stl}
-use Rattle.refusal.specs.declared.Verdict.{Verdict}
+use Rattle.refusal.specs.Refusals.{Verdict}
 use Rattle.refusal.specs.Refusals.{unless}
 use Rattle.refusal.specs.Outcome.{Outcome, outcome}
 use Rattle.stl.specs.Files.{is_stl, coordinates_in}

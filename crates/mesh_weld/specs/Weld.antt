@@ -7,8 +7,7 @@ use Rattle.vector.specs.declared.Vector.{Vector}
 use Rattle.vector.specs.Vectors.{distance_squared_of}
 use Rattle.vector.specs.Floor.{floor_of}
 use Rattle.path.specs.Strokes.{point_at}
-use Rattle.mesh_weld.specs.declared.Found.{Found}
-use Rattle.mesh_weld.specs.declared.Found.TheVariants.{At, Nothing}
+use Rattle.std.specs.Prelude.{Option, Some, None}
 
 -- 1e-6
 abbrev pub side : Float
@@ -31,25 +30,25 @@ in_cell a b c v = same (cell v.x) a && same (cell v.y) b && same (cell v.z) c
 unfoldable pub near : Vector → Vector → Bool
 near p v = lt (distance_squared_of p v) (mul binary64 side side)
 
-unfoldable pub or_else : Found → Found → Found
-or_else (At i) f = At i
-or_else Nothing f = f
+unfoldable pub or_else : Option ℕ → Option ℕ → Option ℕ
+or_else (Some i) f = Some i
+or_else None f = f
 
 -- the lowest of the numbers below k that passes
-unfoldable pub oldest : (ℕ → Bool) → ℕ → Found
-oldest q zero = Nothing
-oldest q (suc k) = or_else (oldest q k) (cond (q k) (At k) Nothing)
+unfoldable pub oldest : (ℕ → Bool) → ℕ → Option ℕ
+oldest q zero = None
+oldest q (suc k) = or_else (oldest q k) (cond (q k) (Some k) None)
 
 -- the oldest of k vertices that is in a cell and near p
-unfoldable pub find_in : List Float → ℕ → Vector → ℤ → ℤ → ℤ → Found
+unfoldable pub find_in : List Float → ℕ → Vector → ℤ → ℤ → ℤ → Option ℕ
 find_in vs k p a b c = oldest (λ i. in_cell a b c (point_at vs i) && near p (point_at vs i)) k
 
 -- the first that is found below a cell, in it, above it
-unfoldable pub three : (ℤ → Found) → ℤ → Found
+unfoldable pub three : (ℤ → Option ℕ) → ℤ → Option ℕ
 three f z = or_else (f (pred_ℤ z)) (or_else (f z) (f (suc_ℤ z)))
 
 -- the 27 cells about p
-unfoldable pub find : List Float → ℕ → Vector → Found
+unfoldable pub find : List Float → ℕ → Vector → Option ℕ
 find vs k p = three (λ a. three (λ b. three (λ c. find_in vs k p a b c) (cell p.z)) (cell p.y)) (cell p.x)
 
 -- the vertices so far as a flat list, how many they are, and the numbers of the corners passed
@@ -58,9 +57,9 @@ pub record Merged : Type 0 where
   pub count : ℕ
   pub indices : List ℕ
 
-unfoldable pub join_as : Merged → Vector → Found → Merged
-join_as w p (At i) = record { vertices = w.vertices; count = w.count; indices = w.indices ++ i ∷ [] }
-join_as w p Nothing = record { vertices = w.vertices ++ p.x ∷ p.y ∷ p.z ∷ []; count = w.count + 1; indices = w.indices ++ w.count ∷ [] }
+unfoldable pub join_as : Merged → Vector → Option ℕ → Merged
+join_as w p (Some i) = record { vertices = w.vertices; count = w.count; indices = w.indices ++ i ∷ [] }
+join_as w p None = record { vertices = w.vertices ++ p.x ∷ p.y ∷ p.z ∷ []; count = w.count + 1; indices = w.indices ++ w.count ∷ [] }
 
 unfoldable pub join : Merged → Vector → Merged
 join w p = join_as w p (find w.vertices w.count p)

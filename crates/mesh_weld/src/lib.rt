@@ -3,7 +3,7 @@
 
 pub mod read;
 
-ghost use Rattle.std.specs.Prelude.{◌≡◌, true, ◌+◌, ◌*◌, ◌/◌, ◌^◌, ◌≤◌, ◌<◌, [], ◌∷◌, map, length, replicate, nat_abs};
+ghost use Rattle.std.specs.Prelude.{◌≡◌, true, ◌+◌, ◌*◌, ◌/◌, ◌^◌, ◌≤◌, ◌<◌, [], ◌∷◌, map, length, replicate, nat_abs, List, Float};
 ghost use Rattle.refusal.specs.Each.{Each};
 ghost use Rattle.path.specs.Strokes.{point_at};
 ghost use Rattle.mesh_weld.specs.Weld.{near as near_of, find as find_of};
@@ -14,22 +14,15 @@ ghost use Rattle.mesh_weld.specs.InnerTable.{Laid};
 
 use order::clear;
 use path::{coordinates_good, point_at, put_point};
-use refusal::{MOST_FACES, Refusal, Verdict};
+use refusal::{MOST_FACES, Refusal};
 use vector::Vector;
-use vector::number::{Whole, floor};
+use vector::number::floor;
 
-// The number of a vertex, or none.
-#[derive(Clone, Copy)]
-pub enum Found {
-    At(usize),
-    Nothing,
-}
-
-// What welding answers: how many vertices and indices were written, or the refusal.
-#[derive(Clone, Copy)]
-pub enum Welded {
-    Wrote { vertices: usize, indices: usize },
-    Refused(Refusal),
+// How many vertices and indices a weld wrote.
+#[derive(Clone, Copy, Debug, PartialEq, Eq)]
+pub struct Welded {
+    pub vertices: usize,
+    pub indices: usize,
 }
 
 // The source's VertexMerger, whose maps are one table in scratch: how many buckets the table has, and how many vertices it holds.
@@ -37,6 +30,9 @@ pub enum Welded {
 struct VertexMerger {
     buckets: usize,
     count: usize,
+    pub ghost some: { 0 < buckets },
+    pub ghost few: { buckets < 2 ^ 20 },
+    pub ghost small: { count ≤ 2 ^ 20 },
 }
 
 // The cell of a point, each number counted up from one below all cells.
@@ -70,7 +66,7 @@ struct Ways {
 // What a vertex is worth to a corner is its place times this, and its number.
 const PLACE: u64 = 1048576;
 
-// What is worth nothing: all 27 places come before it.
+// What is worth nothing: all 27 places come before it. (A number and no Option, as 100 below: the least of all is one comparison each.)
 const TOP: u64 = 27 * PLACE;
 
 // A cell, counted up from a number below all of them.
@@ -86,8 +82,8 @@ fn key_of(x: f64) -> u64
     ensures { (result ≡ key x) × (0 < result) × (result < 2 ^ 55) }
 {
     match floor(x / 0.000001) {
-        Whole::Of(z) => counted(z),
-        Whole::Refused(_) => counted(0),
+        Ok(z) => counted(z),
+        Err(_) => counted(0),
     }
 }
 
@@ -120,14 +116,13 @@ fn coarse_of(c: Cube) -> Cube
     }
 }
 
-// The bucket of a coarse cell, of m.
-fn bucket(q: Cube, m: usize) -> usize
-    requires { (0 < m) × (m < 2 ^ 20) }
-    ensures { (result ≡ bucket_of q m) × (result < m) }
+// The bucket of a coarse cell.
+fn bucket(q: Cube, g: VertexMerger) -> usize
+    ensures { (result ≡ bucket_of q g.buckets) × (result < g.buckets) }
 {
     let t = (folded(q.x) * 625341585 + folded(q.y) * 461845907 + folded(q.z) * 668265263)
         % 4294967291;
-    t as usize * m / 4294967296
+    t as usize * g.buckets / 4294967296
 }
 
 // What is left of a coarse cell after its first bit: x, y, z take turns, the lowest bits first.
@@ -142,11 +137,11 @@ fn turned(q: Cube) -> Cube
 }
 
 // The slot of that one of the two links of vertex v which the first bit of q tells.
-fn link(v: usize, q: Cube, m: usize) -> usize
-    requires { (m < 2 ^ 20) × (v < 2 ^ 20) }
-    ensures { result ≡ link_of v q m }
+fn link(v: usize, q: Cube, g: VertexMerger) -> usize
+    requires { v < 2 ^ 20 }
+    ensures { result ≡ link_of v q g.buckets }
 {
-    m + v * 2 + (q.x % 2) as usize
+    g.buckets + v * 2 + (q.x % 2) as usize
 }
 
 // The place of w among the three cells about x: 0, 1, 2, or 100 where it is none of them.
@@ -201,11 +196,11 @@ fn near(p: Vector, v: Vector) -> bool
 // What vertex number i, the point v, which is near, is worth to the corner p in cell c: the place of its cell and then its number; TOP
 // and more is nothing. An equal vertex lies in the same cell, place 13: most corners of a mesh find one, and are spared its divisions.
 fn score(p: Vector, c: Cube, v: Vector, i: usize) -> u64
-    requires counted { Counted c × (c ≡ cube_of p) }
+    requires c_value { c ≡ cube_of p }
     requires i_bound { (i < 2 ^ 20) × (near_of p v ≡ true) }
     ensures { result ≡ score_of p c v i }
 {
-    if p.equal(v) {
+    if p == v {
         return 13 * PLACE + i as u64;
     }
     rank(v, c) * PLACE + i as u64
@@ -218,12 +213,12 @@ fn lesser(a: u64, b: u64) -> u64
 }
 
 // The way of a coarse cell, at its bucket.
-fn begin(scratch: &[u32], m: usize, x: u64, y: u64, z: u64) -> Way
-    requires { (m ≤ length scratch.now) × (0 < m) × (m < 2 ^ 20) }
-    ensures { result ≡ way_of scratch.now m (cube x y z) }
+fn begin(scratch: &[u32], g: VertexMerger, x: u64, y: u64, z: u64) -> Way
+    requires { g.buckets ≤ length scratch.now }
+    ensures { result ≡ way_of scratch.now g.buckets (cube x y z) }
 {
     let home = Cube { x: x, y: y, z: z };
-    let at = bucket(home, m);
+    let at = bucket(home, g);
     Way {
         next: scratch[at] as usize,
         q: home,
@@ -231,29 +226,29 @@ fn begin(scratch: &[u32], m: usize, x: u64, y: u64, z: u64) -> Way
 }
 
 // The ways of the eight coarse cells from this one on.
-fn all_begin(scratch: &[u32], m: usize, x: u64, y: u64, z: u64) -> Ways
-    requires m_in_bounds { (m ≤ length scratch.now) × (0 < m) × (m < 2 ^ 20) }
+fn all_begin(scratch: &[u32], g: VertexMerger, x: u64, y: u64, z: u64) -> Ways
+    requires buckets_in_bounds { g.buckets ≤ length scratch.now }
     requires x_bound { (x < 2 ^ 55) × (y < 2 ^ 55) × (z < 2 ^ 55) }
-    ensures { all_ways result ≡ map (way_of scratch.now m) (eight_from x y z) }
+    ensures { all_ways result ≡ map (way_of scratch.now g.buckets) (eight_from x y z) }
 {
     let right = x + 1;
     let up = y + 1;
     let far = z + 1;
     Ways {
-        a: begin(scratch, m, x, y, z),
-        b: begin(scratch, m, x, y, far),
-        c: begin(scratch, m, x, up, z),
-        d: begin(scratch, m, x, up, far),
-        e: begin(scratch, m, right, y, z),
-        f: begin(scratch, m, right, y, far),
-        g: begin(scratch, m, right, up, z),
-        h: begin(scratch, m, right, up, far),
+        a: begin(scratch, g, x, y, z),
+        b: begin(scratch, g, x, y, far),
+        c: begin(scratch, g, x, up, z),
+        d: begin(scratch, g, x, up, far),
+        e: begin(scratch, g, right, y, z),
+        f: begin(scratch, g, right, y, far),
+        g: begin(scratch, g, right, up, z),
+        h: begin(scratch, g, right, up, far),
     }
 }
 
 // A way one vertex further; one that has ended stays.
 fn onward(scratch: &[u32], g: VertexMerger, w: Way) -> Way
-    requires count_in_bounds { (g.buckets + g.count * 2 ≤ length scratch.now) × (g.buckets < 2 ^ 20) × (g.count ≤ 2 ^ 20) }
+    requires count_in_bounds { g.buckets + g.count * 2 ≤ length scratch.now }
     requires next_le_count { w.next ≤ g.count }
     ensures { result ≡ onward_of scratch.now g.buckets w }
 {
@@ -261,7 +256,7 @@ fn onward(scratch: &[u32], g: VertexMerger, w: Way) -> Way
         return w;
     }
     let q = w.q;
-    let at = link(w.next - 1, q, g.buckets);
+    let at = link(w.next - 1, q, g);
     Way {
         next: scratch[at] as usize,
         q: turned(q),
@@ -269,7 +264,7 @@ fn onward(scratch: &[u32], g: VertexMerger, w: Way) -> Way
 }
 
 fn all_onward(scratch: &[u32], g: VertexMerger, w: Ways) -> Ways
-    requires count_in_bounds { (g.buckets + g.count * 2 ≤ length scratch.now) × (g.buckets < 2 ^ 20) × (g.count ≤ 2 ^ 20) }
+    requires count_in_bounds { g.buckets + g.count * 2 ≤ length scratch.now }
     requires each { Each (NoMore g.count) (all_ways w) }
     ensures { all_ways result ≡ map (onward_of scratch.now g.buckets) (all_ways w) }
 {
@@ -285,7 +280,7 @@ fn all_onward(scratch: &[u32], g: VertexMerger, w: Ways) -> Ways
     }
 }
 
-// Vertex v, read with no test: it is there.
+// Vertex v, read with no test: it is there. (path_simplify reads points so too: path lends no function that asks anything.)
 fn vertex_in(vertices: &[f64], v: usize) -> Vector
     requires { (v * 3 + 2 < length vertices.now) × (v < 2 ^ 20) }
     ensures { result ≡ point_at vertices.now v }
@@ -298,9 +293,10 @@ fn vertex_in(vertices: &[f64], v: usize) -> Vector
     }
 }
 
-// 1 where the vertex ahead on a way is near p, and else 0.
+// 1 where the vertex ahead on a way is near p, and else 0: a number, since the eight are summed up to one word, and one test of it tells
+// that none is near.
 fn close(vertices: &[f64], g: VertexMerger, p: Vector, w: Way) -> usize
-    requires { (g.count * 3 ≤ length vertices.now) × (g.count ≤ 2 ^ 20) × (w.next ≤ g.count) }
+    requires { (g.count * 3 ≤ length vertices.now) × (w.next ≤ g.count) }
     ensures { (result ≡ close_of vertices.now p w) × (result ≤ 1) }
 {
     if w.next == 0 {
@@ -314,7 +310,7 @@ fn close(vertices: &[f64], g: VertexMerger, p: Vector, w: Way) -> usize
 
 // Which of the vertices ahead are near p: a bit for each way, the first the lowest.
 fn all_close(vertices: &[f64], g: VertexMerger, p: Vector, w: Ways) -> usize
-    requires count_in_bounds { (g.count * 3 ≤ length vertices.now) × (g.count ≤ 2 ^ 20) }
+    requires count_in_bounds { g.count * 3 ≤ length vertices.now }
     requires each { Each (NoMore g.count) (all_ways w) }
     ensures { result ≡ all_close vertices.now p (all_ways w) }
 {
@@ -331,7 +327,7 @@ fn all_close(vertices: &[f64], g: VertexMerger, p: Vector, w: Ways) -> usize
 
 // The lesser of a number and of what the vertex ahead on a way is worth: nothing where it is not close.
 fn worth(vertices: &[f64], p: Vector, c: Cube, w: Way, is_close: usize, best: u64) -> u64
-    requires counted { Counted c × (c ≡ cube_of p) × (w.next ≤ 2 ^ 20) }
+    requires c_value { (c ≡ cube_of p) × (w.next ≤ 2 ^ 20) }
     requires is_close_value { (is_close ≡ close_of vertices.now p w) × (best ≤ top) }
     ensures { (result ≡ worth_of (score_at vertices.now p c) best w) × (result ≤ top) }
 {
@@ -344,7 +340,7 @@ fn worth(vertices: &[f64], p: Vector, c: Cube, w: Way, is_close: usize, best: u6
 
 // The same of all eight, by a bit for each that says whether it is close.
 fn all_worth(vertices: &[f64], p: Vector, c: Cube, w: Ways, bits: usize, best: u64) -> u64
-    requires counted { Counted c × (c ≡ cube_of p) × Each (NoMore (2 ^ 20)) (all_ways w) }
+    requires c_value { (c ≡ cube_of p) × Each (NoMore (2 ^ 20)) (all_ways w) }
     requires bits_value { (bits ≡ all_close vertices.now p (all_ways w)) × (best ≤ top) }
     ensures { result ≡ all_worth (score_at vertices.now p c) best (all_ways w) }
 {
@@ -360,9 +356,9 @@ fn all_worth(vertices: &[f64], p: Vector, c: Cube, w: Ways, bits: usize, best: u
 
 // What all_worth gives. Mostly no vertex ahead is near, and then nothing is worth anything.
 fn best_of(vertices: &[f64], g: VertexMerger, p: Vector, c: Cube, w: Ways, best: u64) -> u64
-    requires count_in_bounds { (g.count * 3 ≤ length vertices.now) × (g.count ≤ 2 ^ 20) }
+    requires count_in_bounds { g.count * 3 ≤ length vertices.now }
     requires each { Each (NoMore g.count) (all_ways w) }
-    requires counted { Counted c × (c ≡ cube_of p) × (best ≤ top) }
+    requires c_value { (c ≡ cube_of p) × (best ≤ top) }
     ensures { result ≡ all_worth (score_at vertices.now p c) best (all_ways w) }
 {
     let bits = all_close(vertices, g, p, w);
@@ -383,18 +379,12 @@ fn ahead(w: Ways) -> usize
 // The least that a vertex is worth to p, in cell c, or TOP: every vertex of the 27 cells is on one of the eight ways.
 fn look(vertices: &[f64], scratch: &[u32], g: VertexMerger, p: Vector, c: Cube) -> u64
     requires ready { Ready scratch.now vertices.now g.buckets g.count }
-    requires counted { Counted c }
     requires c_value { c ≡ cube_of p }
     ensures { Least (About vertices.now c) (score_at vertices.now p c) g.count top result }
 {
     let mut best = TOP;
-    let mut w = all_begin(
-        scratch,
-        g.buckets,
-        (c.x - 1) / 2,
-        (c.y - 1) / 2,
-        (c.z - 1) / 2,
-    );
+    let mut w = all_begin(scratch, g, (c.x - 1) / 2, (c.y - 1) / 2, (c.z - 1) / 2);
+    // A `while`: how many turns there are is known only when all ways have ended.
     while ahead(w) != 0 {
         let next = all_onward(scratch, g, w);
         best = best_of(vertices, g, p, c, w, best);
@@ -404,29 +394,30 @@ fn look(vertices: &[f64], scratch: &[u32], g: VertexMerger, p: Vector, c: Cube) 
 }
 
 // The vertex that p, in cell c, is welded to, or none.
-fn find(vertices: &[f64], scratch: &[u32], g: VertexMerger, p: Vector, c: Cube) -> Found
+fn find(vertices: &[f64], scratch: &[u32], g: VertexMerger, p: Vector, c: Cube) -> Option<usize>
     requires ready { Ready scratch.now vertices.now g.buckets g.count }
     requires c_value { c ≡ cube_of p }
     ensures { result ≡ find_of vertices.now g.count p }
 {
     let r = look(vertices, scratch, g, p, c);
     if r < TOP {
-        return Found::At((r % PLACE) as usize);
+        return Some((r % PLACE) as usize);
     }
-    Found::Nothing
+    None
 }
 
 // The empty slot that the way of a coarse cell ends at.
 fn end(scratch: &[u32], g: VertexMerger, home: Cube) -> usize
     requires older { Older scratch.now g.buckets g.count }
-    requires count_in_bounds { (g.buckets + g.count * 2 ≤ length scratch.now) × (0 < g.buckets) × (g.buckets < 2 ^ 20) × (g.count ≤ 2 ^ 20) }
+    requires count_in_bounds { g.buckets + g.count * 2 ≤ length scratch.now }
     ensures { Ends scratch.now g.buckets result (bucket_of home g.buckets) home × (result < g.buckets + g.count * 2) }
 {
     let mut q = home;
-    let mut at = bucket(home, g.buckets);
+    let mut at = bucket(home, g);
     let mut next = scratch[at] as usize;
+    // A `while`: it follows links, and counts nothing.
     while next != 0 {
-        at = link(next - 1, q, g.buckets);
+        at = link(next - 1, q, g);
         next = scratch[at] as usize;
         q = turned(q);
     }
@@ -436,7 +427,7 @@ fn end(scratch: &[u32], g: VertexMerger, home: Cube) -> usize
 // Puts vertex number g.count, of this coarse cell, there.
 fn insert(scratch: &mut [u32], g: VertexMerger, home: Cube)
     requires older { Older scratch.old g.buckets g.count }
-    requires count_in_bounds { (g.buckets + g.count * 2 ≤ length scratch.old) × (0 < g.buckets) × (g.buckets < 2 ^ 20) × (g.count < 2 ^ 20) }
+    requires count_in_bounds { (g.buckets + g.count * 2 ≤ length scratch.old) × (g.count < 2 ^ 20) }
     ensures { Hung scratch.old g.buckets g.count home scratch.new }
 {
     let at = end(scratch, g, home);
@@ -459,11 +450,11 @@ fn get_or_insert(
     let k = g.count;
     let c = cube_of(p);
     match find(vertices, scratch, g, p, c) {
-        Found::At(v) => {
+        Some(v) => {
             indices[i] = v as u32;
             k
         }
-        Found::Nothing => {
+        None => {
             put_point(vertices, k, p);
             insert(scratch, g, coarse_of(c));
             indices[i] = k as u32;
@@ -472,17 +463,38 @@ fn get_or_insert(
     }
 }
 
-// Welds every corner, with a table of two buckets a corner and two links a vertex, and answers how many vertices there are.
-fn weld_all(coords: &[f64], scratch: &mut [u32], vertices: &mut [f64], indices: &mut [u32]) -> usize
+// Where the corners of faces stand, three coordinates each: in a list, or in the bytes of a file.
+trait Corners: Copy {
+    ghost coordinates: { Self → List Float };
+
+    fn corner(self, i: usize) -> Vector
+        requires { i < length (coordinates self) / 3 }
+        ensures { result ≡ point_at (coordinates self) i };
+}
+
+impl Corners for &[f64] {
+    ghost coordinates = { λ xs. xs.now };
+
+    fn corner(self, i: usize) -> Vector {
+        point_at(self, i)
+    }
+}
+
+// Welds all n corners, with a table of two buckets a corner and two links a vertex, and answers how many vertices there are.
+fn weld_all<C: Corners>(
+    corners: C,
+    n: usize,
+    scratch: &mut [u32],
+    vertices: &mut [f64],
+    indices: &mut [u32],
+) -> usize
     requires scratch_value { scratch.old ≡ replicate (length scratch.old) 0 }
-    requires coords_len_bound { (length coords.now / 3 ≤ 3 * most_faces) × (length coords.now / 3 * 4 ≤ length scratch.old) × (length coords.now / 3 * 3 ≤ length vertices.old) × (length coords.now / 3 ≤ length indices.old) }
-    ensures { Laid coords.now vertices.old indices.old vertices.new indices.new result }
+    requires n_value { (n ≡ length (C.coordinates corners) / 3) × (n ≤ 3 * most_faces) × (n * 4 ≤ length scratch.old) × (n * 3 ≤ length vertices.old) × (n ≤ length indices.old) }
+    ensures { Laid (C.coordinates corners) vertices.old indices.old vertices.new indices.new result }
 {
-    let n = coords.len() / 3;
     let m = n * 2;
     let mut k = 0;
-    let mut i = 0;
-    while i < n {
+    for i in 0..n {
         k = get_or_insert(
             scratch,
             vertices,
@@ -492,43 +504,42 @@ fn weld_all(coords: &[f64], scratch: &mut [u32], vertices: &mut [f64], indices: 
                 count: k,
             },
             i,
-            point_at(coords, i),
+            corners.corner(i),
         );
-        i += 1;
     }
     k
 }
 
 // Whether enough is lent to weld so many faces: the lowest refusal that applies.
-fn lent_verdict(faces: usize, words: usize, room: usize, numbers: usize) -> Verdict
+fn lent_verdict(faces: usize, words: usize, room: usize, numbers: usize) -> Result<(), Refusal>
     requires { faces ≤ most_faces }
     ensures { result ≡ lent_verdict faces words room numbers }
 {
     if words < faces * 12 {
-        return Verdict::Refused(Refusal::Scratch);
+        return Err(Refusal::Scratch);
     }
     if room < faces * 9 {
-        return Verdict::Refused(Refusal::Room);
+        return Err(Refusal::Room);
     }
     if numbers < faces * 3 {
-        return Verdict::Refused(Refusal::Room);
+        return Err(Refusal::Room);
     }
-    Verdict::Accepted
+    Ok(())
 }
 
 // The tests before welding. Nothing lent is touched.
-fn weld_verdict(coords: &[f64], words: usize, room: usize, numbers: usize) -> Verdict
+fn weld_verdict(coords: &[f64], words: usize, room: usize, numbers: usize) -> Result<(), Refusal>
     ensures { result ≡ verdict_of coords.now words room numbers }
 {
     if coords.len() % 9 != 0 {
-        return Verdict::Refused(Refusal::Shape);
+        return Err(Refusal::Shape);
     }
     let faces = coords.len() / 9;
     if MOST_FACES < faces {
-        return Verdict::Refused(Refusal::Count);
+        return Err(Refusal::Count);
     }
     if !coordinates_good(coords) {
-        return Verdict::Refused(Refusal::Number);
+        return Err(Refusal::Number);
     }
     lent_verdict(faces, words, room, numbers)
 }
@@ -539,21 +550,17 @@ pub fn weld(
     scratch: &mut [u32],
     vertices: &mut [f64],
     indices: &mut [u32],
-) -> Welded
+) -> Result<Welded, Refusal>
     ensures { left (said result) scratch.new vertices.new indices.new
         ≡ weld_left coords.now scratch.old vertices.old indices.old }
 {
-    let v = weld_verdict(coords, scratch.len(), vertices.len(), indices.len());
-    match v {
-        Verdict::Refused(r) => Welded::Refused(r),
-        Verdict::Accepted => {
-            clear(scratch);
-            let k = weld_all(coords, scratch, vertices, indices);
-            clear(scratch);
-            Welded::Wrote {
-                vertices: k,
-                indices: coords.len() / 3,
-            }
-        }
-    }
+    weld_verdict(coords, scratch.len(), vertices.len(), indices.len())?;
+    clear(scratch);
+    let n = coords.len() / 3;
+    let k = weld_all(coords, n, scratch, vertices, indices);
+    clear(scratch);
+    Ok(Welded {
+        vertices: k,
+        indices: n,
+    })
 }

@@ -2,16 +2,20 @@
 use mathlib.Core.Path.{◌≡◌, ap}
 use mathlib.Core.List.{List, ◌∷◌}
 use Prim.Native.Nat.{ℕ, ◌*◌, ◌≤◌}
-use lib.ListN.{length}
+use lib.ListN.{length, get_or}
 use lib.Ieee.{Float}
 use Rattle.refusal.specs.One.{One}
 use Rattle.refusal.specs.Said.{Said, accepted}
 use Rattle.refusal.specs.Outcome.{Outcome}
+use Rattle.refusal.specs.declared.Refusal.{Refusal}
+use Rattle.refusal.proofs.Unique.{one-said}
 use Rattle.refusal.proofs.Outcomes.{one-outcome}
 use Rattle.vector.specs.declared.Vector.{Vector}
+use Rattle.path.specs.declared.Place.{Place}
+use Rattle.std.specs.Prelude.{[], Result}
 use Rattle.path.specs.Laid.{joined, non_empty}
 use Rattle.path.specs.InnerPushes.{Out, out, push_all, put_points}
-use Rattle.path.specs.Call.{Lent, lent, left, laid}
+use Rattle.path.specs.Call.{Lent, lent, left, laid, placed_said}
 use Rattle.path.proofs.Pushes.{all_laid, front}
 use Rattle.path.proofs.Points.{points_lie}
 
@@ -23,6 +27,10 @@ pub wrote_all : (more : List ℕ) (ss : List (List Vector)) (op : List Float) (o
     → length (joined ss) * 3 ≤ length op → length (non_empty ss) ≤ length os → wrote more q ≡ laid more ss op os
 unfolding laid
 wrote_all more ss op os q e hp hs = ap (wrote more) (all_laid points_lie op os ss q e hp hs)
+
+-- an answer of points and starts is told by what is said of it
+pub one-place : (r t : Result Place Refusal) → placed_said r ≡ placed_said t → r ≡ t
+one-place = one-said (λ p. p.points ∷ p.starts ∷ []) (λ a b e. λ i. record { points = get_or (e i) 0 0; starts = get_or (e i) 1 0 })
 
 pub one_left : {A : Type 0} (said : A → Said ℕ) → ((r t : A) → said r ≡ said t → r ≡ t) → (x : Outcome Lent)
     → One (A × List Float × List ℕ) (λ o. left (said o.0) o.1 o.2 ≡ x)

@@ -1,5 +1,4 @@
 pub mod Starts
-pub mod Fills
 pub mod Gathers
 pub mod Pushes
 pub mod Points

@@ -1,4 +1,5 @@
 -- Laws of the tests before a call.
+use Rattle.std.specs.Prelude.{Ok}
 use mathlib.Core.Path.{◌≡◌, refl, sym, ap}
 use mathlib.Core.Logic.{◌⊎◌, inl, inr}
 use mathlib.Core.Bool.{Bool, true, false, cond, ◌&&◌, true≢false}
@@ -15,12 +16,11 @@ use borrow.Author.Tests.{leb-true, leb-false}
 use Rattle.refusal.specs.Limits.{most_points, most_strokes}
 use Rattle.refusal.specs.Refusals.{unless}
 use Rattle.refusal.specs.declared.Refusal.{Refusal}
-use Rattle.refusal.specs.declared.Verdict.{Verdict}
-use Rattle.refusal.specs.declared.Verdict.TheVariants.{Accepted}
+use Rattle.refusal.specs.Refusals.{Verdict}
 use Rattle.path.specs.Tests.{counted_of, within_of, all_within}
 
 -- what is accepted has passed the test, and those after it
-pub passed : (b : Bool) (r : Refusal) (v : Verdict) → unless b r v ≡ Accepted → (b ≡ true) × (v ≡ Accepted)
+pub passed : (b : Bool) (r : Refusal) (v : Verdict) → unless b r v ≡ (Ok tt) → (b ≡ true) × (v ≡ (Ok tt))
 unfolding unless
 passed true r v h = (refl, h)
 passed false r v h = absurd (let z : ◌≡◌ {A = ℕ} 0 1 = cc in omega arith)

@@ -1,9 +1,18 @@
 -- What a call on strokes of points is lent, and what it leaves where it is accepted.
-use Rattle.std.specs.Prelude.{List, ◌∷◌, ℕ, length, Float}
-use Rattle.refusal.specs.Said.{Said, accepted}
+use Rattle.std.specs.Prelude.{List, [], ◌∷◌, ℕ, length, Float, Result}
+use Rattle.refusal.specs.declared.Refusal.{Refusal}
+use Rattle.refusal.specs.Said.{Said, accepted, said_by}
 use Rattle.refusal.specs.Outcome.{Outcome, leaves}
 use Rattle.vector.specs.declared.Vector.{Vector}
+use Rattle.path.specs.declared.Place.{Place}
 use Rattle.path.specs.Laid.{over, non_empty, joined, starts_from, flat}
+
+abbrev pub place : ℕ → ℕ → Place
+place p q = record { points = p; starts = q }
+
+-- the answer of a call that writes points and starts: how many of each, or the refusal
+abbrev pub placed_said : Result Place Refusal → Said ℕ
+placed_said r = said_by (λ p. p.points ∷ p.starts ∷ []) r
 
 pub record Lent : Type 0 where
   pub points : List Float

@@ -1,4 +1,5 @@
-// Strokes: a lent list of elements and a lent table of starts, and what the calls on points share.
+// Strokes: a lent list of elements and a lent table of starts, and what the calls on points share. The two stay two parameters: every call
+// has them so, and in a clause `strokes.entry.points.now` would stand for `points.now`.
 #![tactic(auto)]
 
 ghost use Rattle.std.specs.Prelude.{◌≡◌, cond, ◌+◌, ◌*◌, length, get_or, set, replicate};
@@ -12,8 +13,8 @@ ghost use Rattle.path.specs.InnerBounds.{Bound};
 use refusal::{MOST_POINTS, MOST_STROKES};
 use vector::Vector;
 
-// Where the next point and the next start go.
-#[derive(Clone, Copy)]
+// Where the next point and the next start go; what a call answers that wrote so many.
+#[derive(Clone, Copy, Debug, PartialEq, Eq)]
 pub struct Place {
     pub points: usize,
     pub starts: usize,
@@ -29,9 +30,8 @@ pub fn rising(starts: &[u32], n: usize) -> bool
     if starts[0] != 0 {
         return false;
     }
-    let mut i = 1;
-    let mut prev: u32 = 0;
-    while i < starts.len() {
+    let mut prev = 0;
+    for i in 1..starts.len() {
         let s = starts[i];
         if s < prev {
             return false;
@@ -40,7 +40,6 @@ pub fn rising(starts: &[u32], n: usize) -> bool
             return false;
         }
         prev = s;
-        i += 1;
     }
     true
 }
@@ -106,8 +105,8 @@ pub fn point_at(points: &[f64], i: usize) -> Vector
     point_past(points, i)
 }
 
-// Stores a number at place k; past the end nothing.
-pub fn put(out: &mut [f64], k: usize, x: f64)
+// Stores an element at place k; past the end nothing.
+pub fn put<T: Copy>(out: &mut [T], k: usize, x: T)
     ensures { out.new ≡ set out.old k x }
 {
     if k < out.len() {
@@ -116,6 +115,7 @@ pub fn put(out: &mut [f64], k: usize, x: f64)
 }
 
 // Stores what there is room for of a point at place i: past the end nothing.
+#[tactic(auto, unfolding(crate::specs::InnerPushes::put_point))]
 fn put_past(out: &mut [f64], i: usize, v: Vector)
     ensures { out.new ≡ put_point out.old i v }
 {
@@ -128,6 +128,7 @@ fn put_past(out: &mut [f64], i: usize, v: Vector)
 }
 
 // Stores a point at place i; past the end nothing. One test serves all three of its numbers.
+#[tactic(auto, unfolding(crate::specs::InnerPushes::put_point))]
 pub fn put_point(out: &mut [f64], i: usize, v: Vector)
     ensures { out.new ≡ put_point out.old i v }
 {
@@ -141,27 +142,15 @@ pub fn put_point(out: &mut [f64], i: usize, v: Vector)
     }
 }
 
-// Sets every number to 0.
+// Sets every number to 0. (order has its like for words: no crate lies below both.)
 pub fn clear_numbers(xs: &mut [f64])
     ensures { xs.new ≡ replicate (length xs.old) zero64 }
 {
-    let mut i: usize = 0;
-    while i < xs.len() {
-        xs[i] = 0.0;
-        i += 1;
-    }
-}
-
-// Stores a number in a table or a list of numbers at place k; past the end nothing.
-pub fn put_number(out: &mut [u32], k: usize, x: u32)
-    ensures { out.new ≡ set out.old k x }
-{
-    if k < out.len() {
-        out[k] = x;
-    }
+    xs.fill(0.0);
 }
 
 // Whether the points come three numbers each and the table is good for them.
+#[tactic(auto, unfolding(crate::specs::Tests::shaped_of))]
 pub fn shaped(points: &[f64], starts: &[u32]) -> bool
     ensures { result ≡ shaped_of points.now starts.now }
 {
@@ -172,6 +161,7 @@ pub fn shaped(points: &[f64], starts: &[u32]) -> bool
 }
 
 // Whether so many points and strokes are within the limits.
+#[tactic(auto, unfolding(crate::specs::Tests::counted_of))]
 pub fn counted(points: usize, strokes: usize) -> bool
     ensures { result ≡ counted_of points strokes }
 {
@@ -190,7 +180,7 @@ const MOST_ENTRY: f64 = 1048576.0;
 // The greatest step, width and height.
 const MOST_SIZE: f64 = 1048576.0;
 
-// Whether the magnitude of a number is within a bound.
+// Whether the magnitude of a number is within a bound. (That it is a bound stands in three contracts: there are two of them, both constants.)
 fn within(x: f64, most: f64) -> bool
     requires { Bound most }
     ensures { result ≡ within_of most x }
@@ -218,10 +208,8 @@ fn all_within(xs: &[f64], most: f64) -> bool
     ensures { result ≡ all_within most xs.now }
 {
     let mut bad = 0;
-    let mut i = 0;
-    while i < xs.len() {
-        bad = bad + past(xs[i], most);
-        i += 1;
+    for x in xs {
+        bad += past(*x, most);
     }
     bad == 0
 }

@@ -1,4 +1,5 @@
 -- Points written equal points read plus halvings.
+use Rattle.std.specs.Prelude.{Ok}
 use mathlib.Core.Path.{◌≡◌, ap, ◌∙◌}
 use mathlib.Core.Bool.{true}
 use mathlib.Core.List.{List, ◌∷◌}
@@ -8,7 +9,6 @@ use lib.ListN.{length}
 use lib.Dec.{eqb}
 use lib.Ieee.{Float}
 use Rattle.refusal.specs.Said.{accepted}
-use Rattle.refusal.specs.declared.Verdict.TheVariants.{Accepted}
 use Rattle.refusal.specs.Outcome.{Outcome}
 use Rattle.refusal.proofs.Unique.{same-values}
 use Rattle.refusal.proofs.Outcomes.{was_accepted}
@@ -20,7 +20,7 @@ use Rattle.path.specs.Call.{Lent, left, laid}
 use Rattle.path.specs.Tests.{shaped_of}
 use Rattle.path.proofs.Again.{table_all}
 use Rattle.path.proofs.Tests.{passed, both}
-use Rattle.path_adaptive.specs.declared.Adapted.TheVariants as A
+use Rattle.path_adaptive.specs.declared.Adapted.{Adapted}
 use Rattle.path_adaptive.specs.Walk.{view_of, walks_of, adapted, halvings_of}
 use Rattle.path_adaptive.specs.Call.{said, verdict_of, adaptive_left}
 use Rattle.path_adaptive.proofs.Tallies.{points_and_halvings}
@@ -37,12 +37,12 @@ unfolding shaped_of
 shaped_table ps ss h = (both (eqb (length ps % 3) 0) (good_starts (length ps / 3) ss) h).1
 
 accepted-table : (ps : List Float) (ss : List ℕ) (m : Matrix) (width height step tolerance : Float) (room start_room : ℕ)
-    → verdict_of ps ss m width height step tolerance room start_room ≡ Accepted → good_starts (length ps / 3) ss ≡ true
+    → verdict_of ps ss m width height step tolerance room start_room ≡ (Ok tt) → good_starts (length ps / 3) ss ≡ true
 unfolding verdict_of
 accepted-table ps ss m width height step tolerance room start_room h = shaped_table ps ss (passed _ _ _ h).0
 
 counted-all : (ps : List Float) (ss : List ℕ) (m : Matrix) (width height step tolerance : Float) (room start_room : ℕ)
-    → verdict_of ps ss m width height step tolerance room start_room ≡ Accepted
+    → verdict_of ps ss m width height step tolerance room start_room ≡ (Ok tt)
     → length (joined (adapted (walks_of (view_of m width height step tolerance) ps ss))) ≡ length ps / 3 + halvings_of (walks_of (view_of m width height step tolerance) ps ss)
 unfolding walks_of
 counted-all ps ss m width height step tolerance room start_room h =
@@ -53,13 +53,13 @@ counted-all ps ss m width height step tolerance room start_room h =
 
 -- of an accepted call's answer, by the contract alone
 pub written-is_read_and_halvings : (ps : List Float) (ss : List ℕ) (m : Matrix) (width height step tolerance : Float) (op : List Float) (os : List ℕ)
-    (points starts halvings : ℕ) (a : List Float) (d : List ℕ)
-    → left (said (A.Wrote points starts halvings)) a d ≡ adaptive_left ps ss m width height step tolerance op os → points ≡ length ps / 3 + halvings
+    (made : Adapted) (a : List Float) (d : List ℕ)
+    → left (said (Ok made)) a d ≡ adaptive_left ps ss m width height step tolerance op os → made.points ≡ length ps / 3 + made.halvings
 unfolding adaptive_left
-written-is_read_and_halvings ps ss m width height step tolerance op os points starts halvings a d h =
+written-is_read_and_halvings ps ss m width height step tolerance op os made a d h =
     let k = was_accepted _ _ _ _ _ h in
     let n = counted-all ps ss m width height step tolerance (length op) (length os) k.0 in
     let e = values_are _ _ op os _ a d k.1 in
-    let p : points ≡ length (joined (adapted (walks_of (view_of m width height step tolerance) ps ss))) = cc in
-    let q : halvings ≡ halvings_of (walks_of (view_of m width height step tolerance) ps ss) = cc in
+    let p : made.points ≡ length (joined (adapted (walks_of (view_of m width height step tolerance) ps ss))) = cc in
+    let q : made.halvings ≡ halvings_of (walks_of (view_of m width height step tolerance) ps ss) = cc in
     omega arith

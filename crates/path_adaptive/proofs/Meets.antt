@@ -8,8 +8,8 @@ use borrow.Author.Tests.{le-leb, lt-leb}
 use Rattle.refusal.specs.Limits.{most_points}
 use Rattle.refusal.specs.declared.Refusal.TheVariants.{Room, Deep}
 use Rattle.vector.specs.declared.Vector.{Vector}
-use Rattle.path_adaptive.specs.declared.Tally.{Tally}
-use Rattle.path_adaptive.specs.declared.Tally.TheVariants.{Left, Met}
+use Rattle.path_adaptive.specs.Tally.{Tally, room_left}
+use Rattle.std.specs.Prelude.{Err}
 use Rattle.path_adaptive.specs.Walk.{Walk, one_point, stuck, followed_by, halved}
 use Rattle.path_adaptive.specs.Tally.{spent}
 use Rattle.path_adaptive.specs.InnerMeasure.{pointed, stopped_of, no_room, too_deep, tally_of, Takes, Meets}
@@ -21,11 +21,11 @@ stops : (n s : ℕ) → most_points < n → stopped_of (tally_of n s) ≡ true
 unfolding tally_of
 stops n s h = rw (lt-leb n most_points h) (go (eqb n no_room))
   where
-    go : (x : Bool) → stopped_of (cond x (Met Room) (Met Deep)) ≡ true
+    go : (x : Bool) → stopped_of (cond x (Err Room) (Err Deep)) ≡ true
     go true = refl
     go false = refl
 
-pub points_left_lem : (n s : ℕ) → n ≤ most_points → tally_of n s ≡ Left n s
+pub points_left_lem : (n s : ℕ) → n ≤ most_points → tally_of n s ≡ room_left n s
 unfolding tally_of
 points_left_lem n s h = rw (le-leb n most_points h)
 

@@ -16,8 +16,9 @@ use Rattle.path.specs.Laid.{joined, non_empty}
 use Rattle.path.proofs.Gathers.{strokes_more, strokes_none}
 use Rattle.path.proofs.Pushes.{some_kept}
 use Rattle.path_adaptive.specs.declared.View.{View}
-use Rattle.path_adaptive.specs.declared.Tally.{Tally}
-use Rattle.path_adaptive.specs.declared.Tally.TheVariants.{Left, Met}
+use Rattle.path_adaptive.specs.declared.Budget.{Budget}
+use Rattle.path_adaptive.specs.Tally.{Tally, room_left}
+use Rattle.std.specs.Prelude.{Ok, Err}
 use Rattle.path_adaptive.specs.Walk.{Walk, none, one_point, stuck, followed_by, halved, stroke_walked, adapted, halvings_of, walk_from, walks_of, shown_of}
 use Rattle.path_adaptive.specs.InnerWrite.{Calm}
 use Rattle.path_adaptive.specs.Tally.{spent, begun, spent_stroke, spent_all}
@@ -28,47 +29,47 @@ use Rattle.path_adaptive.proofs.Walks.{stroke_count_lem}
 
 pub spent-stop : (t : Tally) (w : Walk) → stopped_of t ≡ true → t ≡ spent t w
 unfolding spent
-spent-stop (Left p s) w h = absurd (true≢false (sym h))
-spent-stop (Met r) w h = refl
+spent-stop (Ok b) w h = absurd (true≢false (sym h))
+spent-stop (Err r) w h = refl
 
-pub spent-stuck : (t : Tally) (w : Walk) → w ≡ stuck → stopped_of t ≡ false → Met Deep ≡ spent t w
+pub spent-stuck : (t : Tally) (w : Walk) → w ≡ stuck → stopped_of t ≡ false → Err Deep ≡ spent t w
 unfolding spent
-spent-stuck (Left p s) w e h = rw (e, le-leb 0 p (omega arith))
-spent-stuck (Met r) w e h = absurd (true≢false h)
+spent-stuck (Ok b) w e h = rw (e, le-leb 0 b.points (omega arith))
+spent-stuck (Err r) w e h = absurd (true≢false h)
 
 pub spent-none : (t : Tally) → spent t none ≡ t
 unfolding spent
-spent-none (Left p s) = let z : p - 0 ≡ p = omega arith in rw (le-leb 0 p (omega arith), z)
-spent-none (Met r) = refl
+spent-none (Ok b) = let z : b.points - 0 ≡ b.points = omega arith in rw (le-leb 0 b.points (omega arith), z)
+spent-none (Err r) = refl
 
 pub spent-one : (t : Tally) (v : Vector) (w : Walk) → w ≡ one_point v → pointed t ≡ spent t w
 unfolding spent pointed
-spent-one (Left p s) v w e = rw e
-spent-one (Met r) v w e = refl
+spent-one (Ok b) v w e = rw e
+spent-one (Err r) v w e = refl
 
 pub spent-halved : (t : Tally) (w : Walk) → spent t (halved w) ≡ spent t w
 unfolding spent
-spent-halved (Left p s) w = refl
-spent-halved (Met r) w = refl
+spent-halved (Ok b) w = refl
+spent-halved (Err r) w = refl
 
 module _ (p s : ℕ) (l : Walk) where
-  spent-cases : (P : Tally → Type 0) → (p < length l.points → P (Met Room)) → (length l.points ≤ p → l.deep ≡ true → P (Met Deep))
-      → (length l.points ≤ p → l.deep ≡ false → P (Left (p - length l.points) s)) → P (spent (Left p s) l)
+  spent-cases : (P : Tally → Type 0) → (p < length l.points → P (Err Room)) → (length l.points ≤ p → l.deep ≡ true → P (Err Deep))
+      → (length l.points ≤ p → l.deep ≡ false → P (room_left (p - length l.points) s)) → P (spent (room_left p s) l)
   unfolding spent
   spent-cases P full deep fine = go (leb (length l.points) p) l.deep refl refl
     where
-      go : (x y : Bool) → leb (length l.points) p ≡ x → l.deep ≡ y → P (cond x (cond y (Met Deep) (Left (p - length l.points) s)) (Met Room))
+      go : (x y : Bool) → leb (length l.points) p ≡ x → l.deep ≡ y → P (cond x (cond y (Err Deep) (room_left (p - length l.points) s)) (Err Room))
       go false y e f = full (leb-false (length l.points) p e)
       go true true e f = deep (leb-true (length l.points) p e) f
       go true false e f = fine (leb-true (length l.points) p e) f
 
-  full_join : (r : Walk) → p < length l.points → Met Room ≡ spent (Left p s) (followed_by l r)
+  full_join : (r : Walk) → p < length l.points → Err Room ≡ spent (room_left p s) (followed_by l r)
   unfolding spent followed_by
   full_join r h =
       let x = cond l.deep [] r.points in
       rw (lt-leb (length (l.points ++ x)) p (omega (arith, length-append l.points x)))
 
-  deep_join : (r : Walk) → length l.points ≤ p → l.deep ≡ true → Met Deep ≡ spent (Left p s) (followed_by l r)
+  deep_join : (r : Walk) → length l.points ≤ p → l.deep ≡ true → Err Deep ≡ spent (room_left p s) (followed_by l r)
   unfolding spent followed_by
   deep_join r h d = rw (d, append-nil, le-leb (length l.points) p h)
 
@@ -79,7 +80,7 @@ module _ (p s : ℕ) (l : Walk) where
       go true e = le-leb (n + k) p (let b = leb-true k (p - n) e in omega arith)
       go false e = lt-leb (n + k) p (let b = leb-false k (p - n) e in omega arith)
 
-  fine-join : (r : Walk) → length l.points ≤ p → l.deep ≡ false → spent (Left (p - length l.points) s) r ≡ spent (Left p s) (followed_by l r)
+  fine-join : (r : Walk) → length l.points ≤ p → l.deep ≡ false → spent (room_left (p - length l.points) s) r ≡ spent (room_left p s) (followed_by l r)
   unfolding spent followed_by
   fine-join r h d =
       let n = length l.points in
@@ -90,9 +91,10 @@ module _ (p s : ℕ) (l : Walk) where
 -- one walk after the other
 pub spent-join : (t : Tally) (l r w : Walk) → w ≡ followed_by l r → spent (spent t l) r ≡ spent t w
 unfolding spent
-spent-join (Met q) l r w e = refl
-spent-join (Left p s) l r w e =
-    rw e (spent-cases p s l (λ t. spent t r ≡ spent (Left p s) (followed_by l r)) (full_join p s l r) (deep_join p s l r) (fine-join p s l r))
+spent-join (Err q) l r w e = refl
+spent-join (Ok b) l r w e =
+    let p = b.points in let s = b.starts in
+    rw e (spent-cases p s l (λ t. spent t r ≡ spent (room_left p s) (followed_by l r)) (full_join p s l r) (deep_join p s l r) (fine-join p s l r))
 
 -- ---- a stroke
 
@@ -115,25 +117,29 @@ stroke_first t v r w e = spent-join (begun t) (one_point v) r w e ∙ sym (spent
 pub stroke_goes : (t s : Tally) (v : Vector) (r w : Walk) → w ≡ followed_by (one_point v) r → s ≡ pointed (begun t) → spent s r ≡ spent_stroke t w
 stroke_goes t s v r w e f = ap (λ (x : Tally). spent x r) (f ∙ spent-one (begun t) v (one_point v) refl) ∙ stroke_first t v r w e
 
+-- or neither, where its start or its first point is refused
+pub stroke_met : (t : Tally) (q : Refusal) (v : Vector) (r w : Walk) → w ≡ followed_by (one_point v) r → Err q ≡ pointed (begun t) → Err q ≡ spent_stroke t w
+stroke_met t q v r w e f = spent-stop (Err q) r refl ∙ stroke_goes t (Err q) v r w e f
+
 -- ---- the room for points never grows
 
-begun-cases : (p s : ℕ) (P : Tally → Type 0) → (s < 1 → P (Met Room)) → (1 ≤ s → P (Left p (s - 1))) → P (begun (Left p s))
+begun-cases : (p s : ℕ) (P : Tally → Type 0) → (s < 1 → P (Err Room)) → (1 ≤ s → P (room_left p (s - 1))) → P (begun (room_left p s))
 unfolding begun
 begun-cases p s P f g = go (leb 1 s) refl
   where
-    go : (x : Bool) → leb 1 s ≡ x → P (cond x (Left p (s - 1)) (Met Room))
+    go : (x : Bool) → leb 1 s ≡ x → P (cond x (room_left p (s - 1)) (Err Room))
     go true e = g (leb-true 1 s e)
     go false e = f (leb-false 1 s e)
 
 spent-less : (t : Tally) (w : Walk) → points_of (spent t w) ≤ points_of t
 unfolding spent
-spent-less (Left p s) w = spent-cases p s w (λ t. points_of t ≤ p) (λ h. omega arith) (λ h d. omega arith) (λ h d. omega arith)
-spent-less (Met r) w = omega arith
+spent-less (Ok b) w = spent-cases b.points b.starts w (λ t. points_of t ≤ b.points) (λ h. omega arith) (λ h d. omega arith) (λ h d. omega arith)
+spent-less (Err r) w = omega arith
 
 begun-less : (t : Tally) → points_of (begun t) ≤ points_of t
 unfolding begun
-begun-less (Left p s) = begun-cases p s (λ t. points_of t ≤ p) (λ h. omega arith) (λ h. omega arith)
-begun-less (Met r) = omega arith
+begun-less (Ok b) = begun-cases b.points b.starts (λ t. points_of t ≤ b.points) (λ h. omega arith) (λ h. omega arith)
+begun-less (Err r) = omega arith
 
 stroke_less : (t : Tally) (w : Walk) → points_of (spent_stroke t w) ≤ points_of t
 unfolding spent_stroke
@@ -143,19 +149,19 @@ stroke_less t w = go (eqb (length w.points) 0)
     go true = omega arith
     go false = omega (arith, spent-less (begun t) w, begun-less t)
 
-pub first-less : (t s : Tally) (v : Vector) {p q : ℕ} → s ≡ pointed (begun t) → s ≡ Left p q → p ≤ points_of t
+pub first-less : (t s : Tally) (v : Vector) {b : Budget} → s ≡ pointed (begun t) → s ≡ Ok b → b.points ≤ points_of t
 first-less t s v f e =
     let a = ap points_of (sym e ∙ f ∙ spent-one (begun t) v (one_point v) refl) in
     omega (arith, spent-less (begun t) (one_point v), begun-less t)
 
 -- ---- all strokes
 
-pub met_all : (q : Refusal) (ws : List Walk) → spent_all (Met q) ws ≡ Met q
+pub met_all : (q : Refusal) (ws : List Walk) → spent_all (Err q) ws ≡ Err q
 unfolding spent_all spent_stroke begun spent
 met_all q [] = refl
 met_all q (w ∷ ws) = rw (same (eqb (length w.points) 0)) (met_all q ws)
   where
-    same : (x : Bool) → cond x (Met q) (Met q) ≡ Met q
+    same : (x : Bool) → cond {A = Tally} x (Err q) (Err q) ≡ Err q
     same true = refl
     same false = refl
 
@@ -182,11 +188,11 @@ fine_more p s w ws h d z k f =
     not_none zero z = absurd (z refl)
     not_none (suc n) z = omega arith
 
-stop_not : {A : Type 0} (q : Refusal) (ws : List Walk) → stopped_of (spent_all (Met q) ws) ≡ false → A
+stop_not : {A : Type 0} (q : Refusal) (ws : List Walk) → stopped_of (spent_all (Err q) ws) ≡ false → A
 stop_not q ws h = absurd (true≢false (sym (ap stopped_of (met_all q ws)) ∙ h))
 
 -- a walk that is not stopped came to every end, with room for all
-pub all_fine : (view : View) (ss : List (List Vector)) (p s : ℕ) → stopped_of (spent_all (Left p s) (map (stroke_walked view) ss)) ≡ false → Fine p s (map (stroke_walked view) ss)
+pub all_fine : (view : View) (ss : List (List Vector)) (p s : ℕ) → stopped_of (spent_all (room_left p s) (map (stroke_walked view) ss)) ≡ false → Fine p s (map (stroke_walked view) ss)
 unfolding spent_all spent_stroke spent stroke_walked joined non_empty Calm
 all_fine view [] p s h = record { calm = tt; few = omega arith; few_starts = omega arith }
 all_fine view ([] ∷ ss) p s h = fine-empty p s (map (stroke_walked view) ss) (all_fine view ss p s h)
@@ -194,7 +200,7 @@ all_fine view ((v ∷ vs) ∷ ss) p s h =
     let w = stroke_walked view (v ∷ vs) in
     let ws = map (stroke_walked view) ss in
     let z = first_some v (walk_from view (shown_of view v) vs) w refl in
-    let k : stopped_of (spent_all (spent (begun (Left p s)) w) ws) ≡ false = ap (λ (t : Tally). stopped_of (spent_all t ws)) (sym (spent_some (Left p s) w z)) ∙ h in
+    let k : stopped_of (spent_all (spent (begun (room_left p s)) w) ws) ≡ false = ap (λ (t : Tally). stopped_of (spent_all t ws)) (sym (spent_some (room_left p s) w z)) ∙ h in
     begun-cases p s (λ t. stopped_of (spent_all (spent t w) ws) ≡ false → Fine p s (w ∷ ws))
     (λ l g. stop_not Room ws g)
     (λ l g. spent-cases p (s - 1) w (λ t. stopped_of (spent_all t ws) ≡ false → Fine p s (w ∷ ws))

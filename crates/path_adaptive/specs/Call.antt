@@ -1,24 +1,22 @@
 -- What a call of chop_adaptive answers and leaves in the two lists lent to it.
-use Rattle.std.specs.Prelude.{Bool, ◌&&◌, List, [], ◌∷◌, ℕ, ◌/◌, min, length, Float}
+use Rattle.std.specs.Prelude.{Bool, ◌&&◌, List, [], ◌∷◌, ℕ, ◌/◌, min, length, Float, Result}
 use Rattle.refusal.specs.Limits.{most_points}
 use Rattle.refusal.specs.Refusals.{unless}
-use Rattle.refusal.specs.Said.{Said, accepted, refused}
+use Rattle.refusal.specs.Said.{Said, said_by}
 use Rattle.refusal.specs.Outcome.{Outcome, outcome}
+use Rattle.refusal.specs.declared.Refusal.{Refusal}
 use Rattle.refusal.specs.declared.Refusal.TheVariants.{Shape, Count, Number}
-use Rattle.refusal.specs.declared.Verdict.{Verdict}
+use Rattle.refusal.specs.Refusals.{Verdict}
 use Rattle.vector.specs.declared.matrix.Matrix.{Matrix}
 use Rattle.path.specs.Tests.{shaped_of, counted_of, coordinates_good, entries_good, step_good, size_good, tolerance_good}
 use Rattle.path.specs.Call.{Lent, lent, laid}
 use Rattle.path_adaptive.specs.declared.Adapted.{Adapted}
-use Rattle.path_adaptive.specs.declared.Adapted.TheVariants as A
-use Rattle.path_adaptive.specs.declared.Tally.TheVariants as T
 use Rattle.path_adaptive.specs.Walk.{view_of, walks_of, adapted, halvings_of}
-use Rattle.path_adaptive.specs.Tally.{spent_all, verdict_by}
+use Rattle.path_adaptive.specs.Tally.{room_left, spent_all, verdict_by}
 
 -- the answer's number and values
-abbrev pub said : Adapted → Said ℕ
-said (A.Wrote points starts halvings) = accepted (points ∷ starts ∷ halvings ∷ [])
-said (A.Refused r) = refused r
+abbrev pub said : Result Adapted Refusal → Said ℕ
+said r = said_by (λ p. p.points ∷ p.starts ∷ p.halvings ∷ []) r
 
 abbrev pub entries_of : Matrix → List Float
 entries_of m =
@@ -38,7 +36,7 @@ verdict_of ps ss m width height step tolerance room start_room =
     (unless (counted_of (length ps / 3) (length ss)) Count
     (unless (coordinates_good ps) Number
     (unless (numbers_good m width height step tolerance) Number
-    (verdict_by (spent_all (T.Left (point_room room) start_room) (walks_of (view_of m width height step tolerance) ps ss))))))
+    (verdict_by (spent_all (room_left (point_room room) start_room) (walks_of (view_of m width height step tolerance) ps ss))))))
 
 unfoldable pub adaptive_left : List Float → List ℕ → Matrix → Float → Float → Float → Float → List Float → List ℕ → Outcome Lent
 adaptive_left ps ss m width height step tolerance op os =

@@ -3,8 +3,14 @@ use Rattle.std.specs.Prelude.{◌≡◌, false, List, [], ◌∷◌, ◌+◌, �
 use Rattle.refusal.specs.Limits.{most_points}
 use Rattle.path.specs.InnerPushes.{put_points}
 use Rattle.path.specs.Courses.{course, advanced}
+use Rattle.path.specs.declared.Place.{Place}
+use Rattle.path_adaptive.specs.declared.Adapted.{Adapted}
 use Rattle.path_adaptive.specs.declared.write.Mark.{Mark}
 use Rattle.path_adaptive.specs.Walk.{Walk}
+
+-- the places in the course of a call
+abbrev pub places_in : Adapted → Place
+places_in w = record { points = w.points; starts = w.starts }
 
 -- a walk that comes to its end, with few enough points and halvings after the mark m
 pub record Fits (w : Walk) (m : Mark) : Type 0 where

@@ -9,29 +9,25 @@ mod write;
 ghost use Rattle.std.specs.Prelude.{◌≡◌};
 ghost use Rattle.path.specs.Call.{left};
 ghost use Rattle.path.specs.Tests.{entries_good};
-ghost use Rattle.path_adaptive.specs.Tally.{verdict_by};
 ghost use Rattle.path_adaptive.specs.Call.{said, entries_of, numbers_good, point_room, verdict_of, adaptive_left};
 
 use crate::measure::measure_strokes;
 use crate::screen::view_of;
 use crate::write::write_strokes;
 use path::{coordinates_good, counted, entries_good, shaped, size_good, step_good, tolerance_good};
-use refusal::{MOST_POINTS, Refusal, Verdict};
+use refusal::{MOST_POINTS, Refusal};
 use vector::Vector;
 use vector::matrix::Matrix;
 
-// What chop_adaptive wrote and how many halvings it made, or why it was refused.
-#[derive(Clone, Copy)]
-pub enum Adapted {
-    Wrote {
-        points: usize,
-        starts: usize,
-        halvings: usize,
-    },
-    Refused(Refusal),
+// How many points and starts chop_adaptive wrote, and how many halvings it made: so far, where the next ones go.
+#[derive(Clone, Copy, Debug, PartialEq, Eq)]
+pub struct Adapted {
+    pub points: usize,
+    pub starts: usize,
+    pub halvings: usize,
 }
 
-// The screen, and when a span is short: the square of a step, and the tolerance.
+// The screen, and when a span is short: the square of a step, and the tolerance. It goes down the recursion behind a reference, as one word.
 #[derive(Clone, Copy)]
 struct View {
     matrix: Matrix,
@@ -48,11 +44,11 @@ struct Shown {
     seen: Vector,
 }
 
-// The room for points and starts that is left, or the refusal that was met first.
+// The room for points and starts that is left.
 #[derive(Clone, Copy)]
-enum Tally {
-    Left(usize, usize),
-    Met(Refusal),
+struct Budget {
+    points: usize,
+    starts: usize,
 }
 
 // How many halvings may lie on each other.
@@ -99,16 +95,6 @@ fn point_room(room: usize) -> usize
     n
 }
 
-// A tally as a verdict.
-fn verdict_of(t: Tally) -> Verdict
-    ensures { result ≡ verdict_by t }
-{
-    match t {
-        Tally::Left(_, _) => Verdict::Accepted,
-        Tally::Met(r) => Verdict::Refused(r),
-    }
-}
-
 // The tests of a call, in the order of their numbers, and last what the walk meets first.
 fn adaptive_verdict(
     points: &[f64],
@@ -120,24 +106,28 @@ fn adaptive_verdict(
     tolerance: f64,
     room: usize,
     start_room: usize,
-) -> Verdict
+) -> Result<(), Refusal>
     ensures { result ≡ verdict_of points.now starts.now matrix width height step tolerance room start_room }
 {
     if !shaped(points, starts) {
-        return Verdict::Refused(Refusal::Shape);
+        return Err(Refusal::Shape);
     }
     if !counted(points.len() / 3, starts.len()) {
-        return Verdict::Refused(Refusal::Count);
+        return Err(Refusal::Count);
     }
     if !coordinates_good(points) {
-        return Verdict::Refused(Refusal::Number);
+        return Err(Refusal::Number);
     }
     if !numbers_good(matrix, width, height, step, tolerance) {
-        return Verdict::Refused(Refusal::Number);
+        return Err(Refusal::Number);
     }
     let view = view_of(matrix, width, height, step, tolerance);
-    let t = Tally::Left(point_room(room), start_room);
-    verdict_of(measure_strokes(view, points, starts, t))
+    let budget = Budget {
+        points: point_room(room),
+        starts: start_room,
+    };
+    measure_strokes(&view, points, starts, budget)?;
+    Ok(())
 }
 
 // Halves every span until it is short on the screen.
@@ -151,11 +141,11 @@ pub fn chop_adaptive(
     tolerance: f64,
     out_points: &mut [f64],
     out_starts: &mut [u32],
-) -> Adapted
+) -> Result<Adapted, Refusal>
     ensures { left (said result) out_points.new out_starts.new
         ≡ adaptive_left points.now starts.now matrix width height step tolerance out_points.old out_starts.old }
 {
-    let v = adaptive_verdict(
+    adaptive_verdict(
         points,
         starts,
         matrix,
@@ -165,18 +155,7 @@ pub fn chop_adaptive(
         tolerance,
         out_points.len(),
         out_starts.len(),
-    );
-    match v {
-        Verdict::Accepted => {
-            let view = view_of(matrix, width, height, step, tolerance);
-            let w = write_strokes(view, points, starts, out_points, out_starts);
-            let p = w.place;
-            Adapted::Wrote {
-                points: p.points,
-                starts: p.starts,
-                halvings: w.halvings,
-            }
-        }
-        Verdict::Refused(r) => Adapted::Refused(r),
-    }
+    )?;
+    let view = view_of(matrix, width, height, step, tolerance);
+    Ok(write_strokes(&view, points, starts, out_points, out_starts))
 }

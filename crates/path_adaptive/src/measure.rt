@@ -1,14 +1,14 @@
 // What a call would meet: the walk that only counts.
-ghost use Rattle.std.specs.Prelude.{◌≡◌, false, ◌-◌, ◌≤◌};
+ghost use Rattle.std.specs.Prelude.{◌≡◌, false, ◌-◌, ◌≤◌, Ok};
 ghost use Rattle.refusal.specs.Limits.{most_points};
 ghost use Rattle.path.specs.Strokes.{point_at, gather};
 ghost use Rattle.path_adaptive.specs.Walk.{span_ends, most_halvings, walk, walk_from, stroke_walked, walks_of};
 ghost use Rattle.path_adaptive.specs.Tally.{begun, spent_stroke, spent_all};
-ghost use Rattle.path_adaptive.specs.InnerMeasure.{pointed, tally_of, points_of, Takes, Meets};
-ghost use Rattle.path_adaptive.specs.InnerSpan.{view_at, shown_at};
+ghost use Rattle.path_adaptive.specs.InnerMeasure.{pointed, tally_of, Takes, Meets};
+ghost use Rattle.path_adaptive.specs.InnerSpan.{shown_at};
 
-use crate::screen::{divider, lens_of, show, terminator};
-use crate::{DEPTH, Shown, Tally, View};
+use crate::screen::{divider, show, terminator};
+use crate::{Budget, DEPTH, Shown, View};
 use path::{end_of, point_at};
 use refusal::{MOST_POINTS, Refusal};
 use vector::Vector;
@@ -19,47 +19,49 @@ const NO_ROOM: usize = MOST_POINTS + 1;
 
 const TOO_DEEP: usize = MOST_POINTS + 2;
 
-// The tally of such a word.
-fn tally_of(left: usize, starts: usize) -> Tally
+// The tally of such a word: the room left, or the refusal.
+#[tactic(auto, unfolding(crate::specs::InnerMeasure::tally_of))]
+fn tally_of(left: usize, starts: usize) -> Result<Budget, Refusal>
     ensures { result ≡ tally_of left starts }
 {
     if left <= MOST_POINTS {
-        return Tally::Left(left, starts);
+        return Ok(Budget {
+            points: left,
+            starts,
+        });
     }
     if left == NO_ROOM {
-        return Tally::Met(Refusal::Room);
+        return Err(Refusal::Room);
     }
-    Tally::Met(Refusal::Deep)
+    Err(Refusal::Deep)
 }
 
 // After a point.
-fn spend(t: Tally) -> Tally
-    ensures { result ≡ pointed t }
+#[tactic(auto, unfolding(crate::specs::InnerMeasure::pointed))]
+fn spend(b: Budget) -> Result<Budget, Refusal>
+    ensures { result ≡ pointed (Ok b) }
 {
-    match t {
-        Tally::Left(points, starts) => {
-            if points == 0 {
-                return Tally::Met(Refusal::Room);
-            }
-            Tally::Left(points - 1, starts)
-        }
-        Tally::Met(r) => Tally::Met(r),
+    if b.points == 0 {
+        return Err(Refusal::Room);
     }
+    Ok(Budget {
+        points: b.points - 1,
+        starts: b.starts,
+    })
 }
 
 // After a start.
-fn begin(t: Tally) -> Tally
-    ensures { result ≡ begun t }
+#[tactic(auto, unfolding(crate::specs::Tally::begun))]
+fn begin(b: Budget) -> Result<Budget, Refusal>
+    ensures { result ≡ begun (Ok b) }
 {
-    match t {
-        Tally::Left(points, starts) => {
-            if starts == 0 {
-                return Tally::Met(Refusal::Room);
-            }
-            Tally::Left(points, starts - 1)
-        }
-        Tally::Met(r) => Tally::Met(r),
+    if b.starts == 0 {
+        return Err(Refusal::Room);
     }
+    Ok(Budget {
+        points: b.points,
+        starts: b.starts - 1,
+    })
 }
 
 // Takes the room of a point.
@@ -77,7 +79,7 @@ fn collector(left: usize) -> usize
 // struct each: on x86-64 those come in through memory, and every span takes half as long again.)
 #[cycle(halve_recursive_subdivide)]
 fn recursive_subdivide(
-    lens: &[f64; 20],
+    view: &View,
     a: Vector,
     s: Vector,
     b: Vector,
@@ -86,44 +88,36 @@ fn recursive_subdivide(
     left: usize,
 ) -> usize
     requires { left ≤ most_points }
-    ensures { Meets left (walk depth (view_at lens.now) (shown_at a s) (shown_at b t)) result }
+    ensures { Meets left (walk depth view.now (shown_at a s) (shown_at b t)) result }
 {
-    if terminator(lens, a, s, b, t) {
+    if terminator(view, a, s, b, t) {
         return collector(left);
     }
-    halve(lens, a, s, b, t, depth, left)
+    halve(view, a, s, b, t, depth, left)
 }
 
 // What the walk of a span that is halved meets: its left half, then its right.
 #[cycle(halve_recursive_subdivide)]
-fn halve(
-    lens: &[f64; 20],
-    a: Vector,
-    s: Vector,
-    b: Vector,
-    t: Vector,
-    depth: u32,
-    left: usize,
-) -> usize
-    requires { (span_ends (view_at lens.now) (shown_at a s) (shown_at b t) ≡ false) × (left ≤ most_points) }
-    ensures { Meets left (walk depth (view_at lens.now) (shown_at a s) (shown_at b t)) result }
+fn halve(view: &View, a: Vector, s: Vector, b: Vector, t: Vector, depth: u32, left: usize) -> usize
+    requires { (span_ends view.now (shown_at a s) (shown_at b t) ≡ false) × (left ≤ most_points) }
+    ensures { Meets left (walk depth view.now (shown_at a s) (shown_at b t)) result }
 {
     if depth == 0 {
         return TOO_DEEP;
     }
-    let mid = divider(lens, a, b);
+    let mid = divider(view, a, b);
     let m = mid.here;
     let n = mid.seen;
-    let after = recursive_subdivide(lens, a, s, m, n, depth - 1, left);
+    let after = recursive_subdivide(view, a, s, m, n, depth - 1, left);
     if after > MOST_POINTS {
         return after;
     }
-    recursive_subdivide(lens, m, n, b, t, depth - 1, after)
+    recursive_subdivide(view, m, n, b, t, depth - 1, after)
 }
 
 // What the walk of a span meets, where it is not stopped before.
-fn measure_span(lens: &[f64; 20], a: Shown, b: Shown, left: usize) -> usize
-    ensures { Meets left (walk most_halvings (view_at lens.now) a b) result }
+fn measure_span(view: &View, a: Shown, b: Shown, left: usize) -> usize
+    ensures { Meets left (walk most_halvings view.now a b) result }
 {
     if left > MOST_POINTS {
         return left;
@@ -132,56 +126,68 @@ fn measure_span(lens: &[f64; 20], a: Shown, b: Shown, left: usize) -> usize
     let q = b.here;
     let s = a.seen;
     let t = b.seen;
-    recursive_subdivide(lens, p, s, q, t, DEPTH, left)
+    recursive_subdivide(view, p, s, q, t, DEPTH, left)
 }
 
 // What the spans over the points from place i up to e meet, after the point before them.
-fn measure_spans(view: View, points: &[f64], i: usize, e: usize, first: Shown, left: usize) -> usize
-    ensures { Meets left (walk_from view first (gather (point_at points.now) i (e - i))) result }
+fn measure_spans(
+    view: &View,
+    points: &[f64],
+    i: usize,
+    e: usize,
+    first: Shown,
+    left: usize,
+) -> usize
+    ensures { Meets left (walk_from view.now first (gather (point_at points.now) i (e - i))) result }
 {
-    let lens = lens_of(view);
-    let mut j = i;
     let mut p = first;
     let mut k = left;
-    while j < e {
+    for j in i..e {
         let q = show(view, point_at(points, j));
-        k = measure_span(&lens, p, q, k);
+        k = measure_span(view, p, q, k);
         p = q;
-        j += 1;
     }
     k
 }
 
 // What a stroke from place a up to e meets: its start with its first point, then its spans.
-fn measure_stroke(view: View, points: &[f64], a: usize, e: usize, t: Tally) -> Tally
-    requires { points_of t ≤ most_points }
-    ensures { result ≡ spent_stroke t (stroke_walked view (gather (point_at points.now) a (e - a))) }
+fn measure_stroke(
+    view: &View,
+    points: &[f64],
+    a: usize,
+    e: usize,
+    b: Budget,
+) -> Result<Budget, Refusal>
+    requires { b.points ≤ most_points }
+    ensures { result ≡ spent_stroke (Ok b) (stroke_walked view.now (gather (point_at points.now) a (e - a))) }
 {
     if e <= a {
-        return t;
+        return Ok(b);
     }
-    let s = spend(begin(t));
-    match s {
-        Tally::Left(left, starts) => {
-            let first = show(view, point_at(points, a));
-            tally_of(measure_spans(view, points, a + 1, e, first, left), starts)
-        }
-        Tally::Met(r) => Tally::Met(r),
-    }
+    let begun = begin(b)?;
+    let s = spend(begun)?;
+    let first = show(view, point_at(points, a));
+    tally_of(
+        measure_spans(view, points, a + 1, e, first, s.points),
+        s.starts,
+    )
 }
 
-// What all strokes meet.
-pub(crate) fn measure_strokes(view: View, points: &[f64], starts: &[u32], t: Tally) -> Tally
-    requires { points_of t ≤ most_points }
-    ensures { result ≡ spent_all t (walks_of view points.now starts.now) }
+// What all strokes meet, up to the first refusal.
+pub(crate) fn measure_strokes(
+    view: &View,
+    points: &[f64],
+    starts: &[u32],
+    b: Budget,
+) -> Result<Budget, Refusal>
+    requires { b.points ≤ most_points }
+    ensures { result ≡ spent_all (Ok b) (walks_of view.now points.now starts.now) }
 {
-    let mut s = t;
-    let mut j = 0;
-    while j < starts.len() {
+    let mut s = b;
+    for j in 0..starts.len() {
         let a = starts[j] as usize;
         let e = end_of(starts, j, points.len() / 3);
-        s = measure_stroke(view, points, a, e, s);
-        j += 1;
+        s = measure_stroke(view, points, a, e, s)?;
     }
-    s
+    Ok(s)
 }

@@ -1,16 +1,17 @@
-// What a call writes: the walk that stores its points and counts its halvings.
+// What a call writes: the walk that stores its points and counts its halvings. (The walk that only counts is
+// another, in measure: a refusal comes before anything is written.)
 ghost use Rattle.std.specs.Prelude.{◌≡◌, false, ◌+◌, ◌-◌, ◌≤◌, ◌<◌, length};
 ghost use Rattle.refusal.specs.Limits.{most_points};
 ghost use Rattle.path.specs.Strokes.{point_at, gather};
 ghost use Rattle.path.specs.Laid.{joined};
 ghost use Rattle.path.specs.InnerPushes.{put_points, out, push, push_all};
 ghost use Rattle.path_adaptive.specs.Walk.{span_ends, one_point, most_halvings, walk, walk_from, stroke_walked, walks_of, adapted, halvings_of};
-ghost use Rattle.path_adaptive.specs.InnerWrite.{Calm, Fits, Inks};
-ghost use Rattle.path_adaptive.specs.InnerSpan.{view_at, shown_at};
+ghost use Rattle.path_adaptive.specs.InnerWrite.{Calm, Fits, Inks, places_in};
+ghost use Rattle.path_adaptive.specs.InnerSpan.{shown_at};
 
-use crate::screen::{divider, lens_of, show, terminator};
-use crate::{DEPTH, Shown, View};
-use path::{Place, end_of, point_at, put_number, put_point};
+use crate::screen::{divider, show, terminator};
+use crate::{Adapted, DEPTH, Shown, View};
+use path::{end_of, point_at, put, put_point};
 use vector::Vector;
 
 // Where the next point goes, and how many halvings were made so far.
@@ -18,13 +19,6 @@ use vector::Vector;
 struct Mark {
     points: usize,
     halvings: usize,
-}
-
-// Where the next point and the next start go, and how many halvings were made so far.
-#[derive(Clone, Copy)]
-pub(crate) struct Made {
-    pub(crate) place: Place,
-    pub(crate) halvings: usize,
 }
 
 // Writes a point.
@@ -42,7 +36,7 @@ fn collector(out: &mut [f64], at: Mark, v: Vector) -> Mark
 // Writes the walk of a span from a, at s on the screen, to b, at t, with a falling depth.
 #[cycle(halve_recursive_subdivide)]
 fn recursive_subdivide(
-    lens: &[f64; 20],
+    view: &View,
     a: Vector,
     s: Vector,
     b: Vector,
@@ -51,19 +45,19 @@ fn recursive_subdivide(
     out: &mut [f64],
     at: Mark,
 ) -> Mark
-    requires { Fits (walk depth (view_at lens.now) (shown_at a s) (shown_at b t)) at }
-    ensures { Inks (walk depth (view_at lens.now) (shown_at a s) (shown_at b t)) out.old at out.new result }
+    requires { Fits (walk depth view.now (shown_at a s) (shown_at b t)) at }
+    ensures { Inks (walk depth view.now (shown_at a s) (shown_at b t)) out.old at out.new result }
 {
-    if terminator(lens, a, s, b, t) {
+    if terminator(view, a, s, b, t) {
         return collector(out, at, b);
     }
-    halve(lens, a, s, b, t, depth, out, at)
+    halve(view, a, s, b, t, depth, out, at)
 }
 
 // Writes the walk of a span that is halved: this halving is counted, then its left half goes, then its right. At depth 0 nothing fits.
 #[cycle(halve_recursive_subdivide)]
 fn halve(
-    lens: &[f64; 20],
+    view: &View,
     a: Vector,
     s: Vector,
     b: Vector,
@@ -72,38 +66,38 @@ fn halve(
     out: &mut [f64],
     at: Mark,
 ) -> Mark
-    requires { (span_ends (view_at lens.now) (shown_at a s) (shown_at b t) ≡ false) × Fits (walk depth (view_at lens.now) (shown_at a s) (shown_at b t)) at }
-    ensures { Inks (walk depth (view_at lens.now) (shown_at a s) (shown_at b t)) out.old at out.new result }
+    requires { (span_ends view.now (shown_at a s) (shown_at b t) ≡ false) × Fits (walk depth view.now (shown_at a s) (shown_at b t)) at }
+    ensures { Inks (walk depth view.now (shown_at a s) (shown_at b t)) out.old at out.new result }
 {
     if depth == 0 {
         return at;
     }
-    let mid = divider(lens, a, b);
+    let mid = divider(view, a, b);
     let m = mid.here;
     let n = mid.seen;
     let next = Mark {
         points: at.points,
         halvings: at.halvings + 1,
     };
-    let left = recursive_subdivide(lens, a, s, m, n, depth - 1, out, next);
-    recursive_subdivide(lens, m, n, b, t, depth - 1, out, left)
+    let left = recursive_subdivide(view, a, s, m, n, depth - 1, out, next);
+    recursive_subdivide(view, m, n, b, t, depth - 1, out, left)
 }
 
 // Writes the walk of a span.
-fn write_span(lens: &[f64; 20], a: Shown, b: Shown, out: &mut [f64], at: Mark) -> Mark
-    requires { Fits (walk most_halvings (view_at lens.now) a b) at }
-    ensures { Inks (walk most_halvings (view_at lens.now) a b) out.old at out.new result }
+fn write_span(view: &View, a: Shown, b: Shown, out: &mut [f64], at: Mark) -> Mark
+    requires { Fits (walk most_halvings view.now a b) at }
+    ensures { Inks (walk most_halvings view.now a b) out.old at out.new result }
 {
     let p = a.here;
     let q = b.here;
     let s = a.seen;
     let t = b.seen;
-    recursive_subdivide(lens, p, s, q, t, DEPTH, out, at)
+    recursive_subdivide(view, p, s, q, t, DEPTH, out, at)
 }
 
 // Writes what the spans over the points from place i up to e give, after the point before them.
 fn write_spans(
-    view: View,
+    view: &View,
     points: &[f64],
     i: usize,
     e: usize,
@@ -111,26 +105,23 @@ fn write_spans(
     out: &mut [f64],
     at: Mark,
 ) -> Mark
-    requires { Fits (walk_from view first (gather (point_at points.now) i (e - i))) at }
-    ensures { Inks (walk_from view first (gather (point_at points.now) i (e - i))) out.old at out.new result }
+    requires { Fits (walk_from view.now first (gather (point_at points.now) i (e - i))) at }
+    ensures { Inks (walk_from view.now first (gather (point_at points.now) i (e - i))) out.old at out.new result }
 {
-    let lens = lens_of(view);
-    let mut j = i;
     let mut p = first;
     let mut k = at;
-    while j < e {
+    for j in i..e {
         let q = show(view, point_at(points, j));
-        k = write_span(&lens, p, q, out, k);
+        k = write_span(view, p, q, out, k);
         p = q;
-        j += 1;
     }
     k
 }
 
 // Writes a stroke that is not empty.
-fn write_adapted(view: View, points: &[f64], a: usize, e: usize, out: &mut [f64], at: Mark) -> Mark
-    requires { (a < e) × Fits (stroke_walked view (gather (point_at points.now) a (e - a))) at }
-    ensures { Inks (stroke_walked view (gather (point_at points.now) a (e - a))) out.old at out.new result }
+fn write_adapted(view: &View, points: &[f64], a: usize, e: usize, out: &mut [f64], at: Mark) -> Mark
+    requires { (a < e) × Fits (stroke_walked view.now (gather (point_at points.now) a (e - a))) at }
+    ensures { Inks (stroke_walked view.now (gather (point_at points.now) a (e - a))) out.old at out.new result }
 {
     let v = point_at(points, a);
     let next = collector(out, at, v);
@@ -139,27 +130,26 @@ fn write_adapted(view: View, points: &[f64], a: usize, e: usize, out: &mut [f64]
 
 // Writes a stroke and its start; of an empty one nothing.
 fn write_stroke(
-    view: View,
+    view: &View,
     points: &[f64],
     a: usize,
     e: usize,
     out_points: &mut [f64],
     out_starts: &mut [u32],
-    w: Made,
-) -> Made
-    requires { Fits (stroke_walked view (gather (point_at points.now) a (e - a))) (record { points = w.place.points; halvings = w.halvings }) × (w.place.starts ≤ most_points) }
-    ensures { (out out_points.new out_starts.new result.place
-        ≡ push put_points (out out_points.old out_starts.old w.place) (stroke_walked view (gather (point_at points.now) a (e - a))).points)
-        × (result.halvings ≡ w.halvings + (stroke_walked view (gather (point_at points.now) a (e - a))).halvings) }
+    w: Adapted,
+) -> Adapted
+    requires { Fits (stroke_walked view.now (gather (point_at points.now) a (e - a))) (record { points = w.points; halvings = w.halvings }) × (w.starts ≤ most_points) }
+    ensures { (out out_points.new out_starts.new (places_in result)
+        ≡ push put_points (out out_points.old out_starts.old (places_in w)) (stroke_walked view.now (gather (point_at points.now) a (e - a))).points)
+        × (result.halvings ≡ w.halvings + (stroke_walked view.now (gather (point_at points.now) a (e - a))).halvings) }
 {
     if e <= a {
         return w;
     }
-    let p = w.place;
-    let k = p.starts;
-    put_number(out_starts, k, p.points as u32);
+    let k = w.starts;
+    put(out_starts, k, w.points as u32);
     let at = Mark {
-        points: p.points,
+        points: w.points,
         halvings: w.halvings,
     };
     let m = write_adapted(view, points, a, e, out_points, at);
@@ -167,44 +157,39 @@ fn write_stroke(
 }
 
 // What was made, from the marks of the points and of the starts.
-fn made_of(m: Mark, starts: usize) -> Made
-    ensures { result ≡ record { place = record { points = m.points; starts = starts }; halvings = m.halvings } }
+fn made_of(m: Mark, starts: usize) -> Adapted
+    ensures { result ≡ record { points = m.points; starts = starts; halvings = m.halvings } }
 {
-    let place = Place {
+    Adapted {
         points: m.points,
-        starts: starts,
-    };
-    Made {
-        place: place,
+        starts,
         halvings: m.halvings,
     }
 }
 
 // Writes every stroke.
 pub(crate) fn write_strokes(
-    view: View,
+    view: &View,
     points: &[f64],
     starts: &[u32],
     out_points: &mut [f64],
     out_starts: &mut [u32],
-) -> Made
-    requires { Calm (walks_of view points.now starts.now) × (length (joined (adapted (walks_of view points.now starts.now))) ≤ most_points)
-        × (length starts.now ≤ most_points) × (halvings_of (walks_of view points.now starts.now) ≤ most_points) }
-    ensures { (out out_points.new out_starts.new result.place
-        ≡ push_all put_points (out out_points.old out_starts.old (record { points = 0; starts = 0 })) (adapted (walks_of view points.entry.now starts.now)))
-        × (result.halvings ≡ halvings_of (walks_of view points.entry.now starts.now)) }
+) -> Adapted
+    requires { Calm (walks_of view.now points.now starts.now) × (length (joined (adapted (walks_of view.now points.now starts.now))) ≤ most_points)
+        × (length starts.now ≤ most_points) × (halvings_of (walks_of view.now points.now starts.now) ≤ most_points) }
+    ensures { (out out_points.new out_starts.new (places_in result)
+        ≡ push_all put_points (out out_points.old out_starts.old (record { points = 0; starts = 0 })) (adapted (walks_of view.now points.entry.now starts.now)))
+        × (result.halvings ≡ halvings_of (walks_of view.now points.entry.now starts.now)) }
 {
     let none = Mark {
         points: 0,
         halvings: 0,
     };
     let mut w = made_of(none, 0);
-    let mut i = 0;
-    while i < starts.len() {
+    for i in 0..starts.len() {
         let a = starts[i] as usize;
         let e = end_of(starts, i, points.len() / 3);
         w = write_stroke(view, points, a, e, out_points, out_starts, w);
-        i += 1;
     }
     w
 }

@@ -1,4 +1,5 @@
 -- What an accepted chop has been tested for.
+use Rattle.std.specs.Prelude.{Ok}
 use mathlib.Core.Path.{◌≡◌}
 use mathlib.Core.Bool.{true, ◌&&◌}
 use mathlib.Core.List.{List}
@@ -8,7 +9,6 @@ use lib.Dec.{leb}
 use lib.Ieee.{Float}
 use borrow.Author.Tests.{leb-true}
 use Rattle.refusal.specs.Limits.{most_points, most_strokes}
-use Rattle.refusal.specs.declared.Verdict.TheVariants.{Accepted}
 use Rattle.vector.specs.declared.Vector.{Vector}
 use Rattle.path.specs.Laid.{joined, non_empty}
 use Rattle.path.proofs.Tests.{passed, both, few_strokes}
@@ -26,7 +26,7 @@ fitting ss room start_room h =
     let some = both few fit all.0 in
     (leb-true _ _ some.0, leb-true _ _ some.1, leb-true _ _ all.1)
 
-pub chop_accepted : (ps : List Float) (ss : List ℕ) (step : Float) (room start_room : ℕ) → verdict_of ps ss step room start_room ≡ Accepted
+pub chop_accepted : (ps : List Float) (ss : List ℕ) (step : Float) (room start_room : ℕ) → verdict_of ps ss step room start_room ≡ (Ok tt)
     → (length (joined (chopped_of step ps ss)) ≤ most_points) × (length (joined (chopped_of step ps ss)) * 3 ≤ room)
     × (length (non_empty (chopped_of step ps ss)) ≤ start_room) × (length ss ≤ most_strokes)
 unfolding verdict_of

@@ -6,6 +6,8 @@ use Prim.Native.Nat.{ℕ, ◌+◌, ◌-◌, ◌≤◌, ◌<◌}
 use native.Mathlib.Omega.{arith}
 use native.Mathlib.Nat.{min-eq_left, min-eq_right}
 use lib.ListN.{length, length-append}
+use lib.Dec.{leb}
+use mathlib.Core.Bool.{true, false, true≢false}
 use lib.Ieee.{Float}
 use borrow.Author.Tests.{le-leb, lt-leb}
 use Rattle.refusal.specs.Limits.{most_points}
@@ -17,7 +19,7 @@ use Rattle.path.specs.Laid.{joined, non_empty}
 use Rattle.path.proofs.Tests.{split}
 use Rattle.path.proofs.Pushes.{some_kept, none_kept}
 use Rattle.path_chop.specs.Chop.{too_many, steps_of, span, spans, chopped}
-use Rattle.path_chop.specs.InnerCounts.{leaves_some, capped}
+use Rattle.path_chop.specs.InnerCounts.{capped}
 use Rattle.path_chop.proofs.Chops.{steps_within, span-count, spans-more, stroke_short, stroke_some}
 
 -- ---- a count that is cut off
@@ -51,23 +53,12 @@ count-within so_far rest l step h =
 
 -- ---- strokes that are kept
 
-pub kept-some : (n : ℕ) → 2 ≤ n → leaves_some n ≡ 1
-unfolding leaves_some
-kept-some n h = rw (le-leb 2 n h)
+-- what the test says of the stroke
+pub kept-no : (n : ℕ) → leb 2 n ≡ false → n < 2
+kept-no n e = ⊎_elim (λ h. absurd (true≢false (sym (le-leb 2 n h) ∙ e))) (λ h. h) (split 2 n)
 
-pub kept-none : (n : ℕ) → n < 2 → leaves_some n ≡ 0
-unfolding leaves_some
-kept-none n h = rw (lt-leb 2 n h)
-
--- what the number says of the stroke
-pub kept-zero : (n : ℕ) → leaves_some n ≡ 0 → n < 2
-kept-zero n e = ⊎_elim (λ h. absurd (omega (arith, kept-some n h))) (λ h. h) (split 2 n)
-
-pub kept-one : (n : ℕ) → (leaves_some n ≡ 0 → ⊥) → 2 ≤ n
-kept-one n z = ⊎_elim (λ h. h) (λ h. absurd (z (kept-none n h))) (split 2 n)
-
-pub kept-most : (n : ℕ) → leaves_some n ≤ 1
-kept-most n = ⊎_elim (λ h. omega (arith, kept-some n h)) (λ h. omega (arith, kept-none n h)) (split 2 n)
+pub kept-yes : (n : ℕ) → leb 2 n ≡ true → 2 ≤ n
+kept-yes n e = ⊎_elim (λ h. h) (λ h. absurd (true≢false (sym e ∙ lt-leb 2 n h))) (split 2 n)
 
 -- ---- one span, one stroke more in the count
 
@@ -82,13 +73,11 @@ module _ (step : Float) (at : ℕ → Vector) (a e : ℕ) {rest all : List (List
   unfolding joined
   joined-count = rw f (length-append (chopped too_many step (gather at a (e - a))) (joined rest))
 
-  pub kept-count : length (non_empty all) ≡ leaves_some (e - a) + length (non_empty rest)
-  kept-count =
-      rw f
-      (⊎_elim
-      (λ h. omega (arith, kept-some (e - a) h, some_kept (chopped too_many step (gather at a (e - a))) rest (stroke_some step at a e (omega arith))))
-      (λ h. omega (arith, kept-none (e - a) h, none_kept (chopped too_many step (gather at a (e - a))) rest (stroke_short step at a e h)))
-      (split 2 (e - a)))
+  pub kept-more : 2 ≤ e - a → length (non_empty all) ≡ 1 + length (non_empty rest)
+  kept-more h = rw f (some_kept (chopped too_many step (gather at a (e - a))) rest (stroke_some step at a e (omega arith)))
+
+  pub kept-less : e - a < 2 → length (non_empty all) ≡ length (non_empty rest)
+  kept-less h = rw f (none_kept (chopped too_many step (gather at a (e - a))) rest (stroke_short step at a e h))
 
 -- a turn of the loop that counts the strokes, where n points are counted so far
 pub capped-turn : (n m s j all : ℕ) → m ≡ capped (n + s) → all ≡ s + j → capped (m + j) ≡ capped (n + all)

@@ -1,4 +1,5 @@
 -- An accepted chop was never cut off: with more steps a span allowed, the strokes are the same.
+use Rattle.std.specs.Prelude.{Ok}
 use mathlib.Core.Path.{◌≡◌, refl, ap, ◌∙◌}
 use mathlib.Core.Logic.{⊎_elim}
 use mathlib.Core.List.{List, [], ◌∷◌, ◌++◌, map}
@@ -6,7 +7,6 @@ use Prim.Native.Nat.{ℕ, ◌+◌, ◌/◌, ◌<◌}
 use native.Mathlib.Omega.{arith}
 use lib.ListN.{length, length-append, length-map}
 use lib.Ieee.{Float}
-use Rattle.refusal.specs.declared.Verdict.TheVariants.{Accepted}
 use Rattle.vector.specs.declared.Vector.{Vector}
 use Rattle.vector.specs.Vectors.{sub_of}
 use Rattle.vector.specs.Lengths.{length_of}
@@ -53,7 +53,7 @@ module _ (k n : ℕ) (step : Float) where
       ap (λ (x : List Vector). x ∷ map (chopped (k + n) step) ss) (chopped-same s (omega arith))
       ∙ ap (λ (x : List (List Vector)). chopped k step s ∷ x) (strokes_same ss (omega arith))
 
-pub never_cut_off : (ps : List Float) (ss : List ℕ) (step : Float) (room start_room : ℕ) → verdict_of ps ss step room start_room ≡ Accepted
+pub never_cut_off : (ps : List Float) (ss : List ℕ) (step : Float) (room start_room : ℕ) → verdict_of ps ss step room start_room ≡ (Ok tt)
     → (n : ℕ) → chopped_by (too_many + n) step ps ss ≡ chopped_of step ps ss
 unfolding chopped_by
 never_cut_off ps ss step room start_room h n =

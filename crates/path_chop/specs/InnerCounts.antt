@@ -1,15 +1,11 @@
 -- What only private functions are held to. Nobody has to read it to believe what the calls promise.
-use Rattle.std.specs.Prelude.{cond, ℕ, min, leb, Float}
+use Rattle.std.specs.Prelude.{cond, ℕ, min, Float}
 use Rattle.std.specs.Float.Ieee.{lt}
 use Rattle.path_chop.specs.Chop.{too_many}
 
 -- a length, or the step where no step lies within it: what is cut is the same (`reach-cut`, proofs/Chops)
 abbrev pub length_or_step : Float → Float → Float
 length_or_step step l = cond (lt step l) l step
-
--- 1 where a stroke of n points leaves something, 0 where it vanishes
-unfoldable pub leaves_some : ℕ → ℕ
-leaves_some n = cond (leb 2 n) 1 0
 
 -- a count of points, no longer counted where it is above the most
 unfoldable pub capped : ℕ → ℕ

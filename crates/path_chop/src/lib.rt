@@ -11,24 +11,15 @@ ghost use Rattle.path.specs.Strokes.{point_at, gather};
 ghost use Rattle.path.specs.Laid.{joined, non_empty};
 ghost use Rattle.path.specs.InnerPushes.{put_points, out, push, push_all};
 ghost use Rattle.path.specs.Courses.{course, advanced};
-ghost use Rattle.path.specs.Call.{left};
+ghost use Rattle.path.specs.Call.{left, placed_said};
 ghost use Rattle.path_chop.specs.Chop.{too_many, along, steps_of, span, spans, chopped, chopped_of};
-ghost use Rattle.path_chop.specs.InnerCounts.{length_or_step, leaves_some, capped};
-ghost use Rattle.path_chop.specs.Call.{said, room_for, verdict_of, chop_left};
+ghost use Rattle.path_chop.specs.InnerCounts.{length_or_step, capped};
+ghost use Rattle.path_chop.specs.Call.{room_for, verdict_of, chop_left};
 
-use path::{
-    Place, coordinates_good, counted, end_of, point_at, put_number, put_point, shaped, step_good,
-};
-use refusal::{MOST_POINTS, Refusal, Verdict};
+use path::{Place, coordinates_good, counted, end_of, point_at, put, put_point, shaped, step_good};
+use refusal::{MOST_POINTS, Refusal};
 use vector::Vector;
 use vector::number::{root_exceeds, root_or_nan};
-
-// What a chop wrote, or why it was refused.
-#[derive(Clone, Copy)]
-pub enum Chopped {
-    Wrote { points: usize, starts: usize },
-    Refused(Refusal),
-}
 
 // No more points than these are looked at in one span.
 const TOO_MANY: usize = MOST_POINTS + 1;
@@ -37,20 +28,19 @@ const TOO_MANY: usize = MOST_POINTS + 1;
 fn count_steps(l: f64, step: f64, most: usize) -> usize
     ensures { (result ≡ length (steps_of most l step step)) × (result ≤ most) }
 {
-    let mut n = 0;
     let mut d = step;
-    while n < most {
+    for n in 0..most {
         if d < l {
-            n += 1;
             d = d + step;
         } else {
             return n;
         }
     }
-    n
+    most
 }
 
-// Writes the points within a span of length l along v from a.
+// Writes the points within a span of length l along v from a. (A `while`: as a `for` it was tried, and strokes whose spans are not cut
+// took a tenth longer.)
 fn write_steps(a: Vector, v: Vector, l: f64, step: f64, out: &mut [f64], at: usize) -> usize
     requires { at + length (steps_of too_many l step step) ≤ most_points }
     ensures { course out.new result ≡ advanced put_points (course out.old at) (map (along a v l) (steps_of too_many l step step)) }
@@ -113,12 +103,11 @@ fn write_spans(
     requires { at + length (spans too_many step first (gather (point_at points.now) i (e - i))) ≤ most_points }
     ensures { course out.new result ≡ advanced put_points (course out.old at) (spans too_many step first (gather (point_at points.now) i (e - i))) }
 {
-    let mut j = i;
     let mut o = at;
     let mut p = first;
     let mut v = point_at(points, i).sub(first);
     let mut l = reach(v.length_squared(), step);
-    while j < e {
+    for j in i..e {
         let q = point_at(points, j);
         let w = point_at(points, j + 1).sub(q);
         let m = reach(w.length_squared(), step);
@@ -126,22 +115,15 @@ fn write_spans(
         p = q;
         v = w;
         l = m;
-        j += 1;
     }
     o
 }
 
-// 1 where the stroke from place a up to e leaves something, 0 where it vanishes.
-#[tactic(auto, unfolding(crate::specs::InnerCounts::leaves_some))]
-fn kept(a: usize, e: usize) -> usize
-    ensures { result ≡ leaves_some (e - a) }
+// Whether the stroke from place a up to e leaves something: one of fewer points than two vanishes.
+fn kept(a: usize, e: usize) -> bool
+    ensures { result ≡ leb 2 (e - a) }
 {
-    if a < e {
-        if 2 <= e - a {
-            return 1;
-        }
-    }
-    0
+    2 <= e.saturating_sub(a)
 }
 
 // Writes a stroke of two points or more, the points from place a up to e.
@@ -168,12 +150,12 @@ fn write_stroke(
     ensures { out out_points.new out_starts.new result
         ≡ push put_points (out out_points.old out_starts.old p) (chopped too_many step (gather (point_at points.now) a (e - a))) }
 {
-    if kept(a, e) == 0 {
+    if !kept(a, e) {
         return p;
     }
     let at = p.points;
     let k = p.starts;
-    put_number(out_starts, k, at as u32);
+    put(out_starts, k, at as u32);
     let o = write_chopped(points, a, e, step, out_points, at);
     Place {
         points: o,
@@ -197,12 +179,10 @@ fn write_strokes(
         points: 0,
         starts: 0,
     };
-    let mut i = 0;
-    while i < starts.len() {
+    for i in 0..starts.len() {
         let a = starts[i] as usize;
         let e = end_of(starts, i, points.len() / 3);
         p = write_stroke(points, a, e, step, out_points, out_starts, p);
-        i += 1;
     }
     p
 }
@@ -233,12 +213,10 @@ fn longest(points: &[f64], i: usize, e: usize, first: Vector) -> f64
 {
     let mut most = 0.0;
     let mut p = first;
-    let mut j = i;
-    while j < e {
+    for j in i..e {
         let q = point_at(points, j);
         most = larger(most, q.sub(p).length_squared());
         p = q;
-        j += 1;
     }
     most
 }
@@ -249,7 +227,7 @@ fn bound_stroke(points: &[f64], a: usize, e: usize, step: f64, so_far: usize) ->
     requires { so_far ≤ too_many }
     ensures { (capped (so_far + length (chopped too_many step (gather (point_at points.now) a (e - a)))) ≤ result) × (result ≤ too_many) }
 {
-    if kept(a, e) == 0 {
+    if !kept(a, e) {
         return so_far;
     }
     let most = longest(points, a + 1, e, point_at(points, a));
@@ -266,15 +244,13 @@ fn bound_strokes(points: &[f64], starts: &[u32], step: f64) -> usize
     ensures { (capped (length (joined (chopped_of step points.now starts.now))) ≤ result) × (result ≤ too_many) }
 {
     let mut n = 0;
-    let mut j = 0;
-    while j < starts.len() {
+    for j in 0..starts.len() {
         if MOST_POINTS < n {
             return TOO_MANY;
         }
         let a = starts[j] as usize;
         let e = end_of(starts, j, points.len() / 3);
         n = bound_stroke(points, a, e, step, n);
-        j += 1;
     }
     n
 }
@@ -284,10 +260,9 @@ fn count_spans(points: &[f64], i: usize, e: usize, first: Vector, step: f64, so_
     requires { so_far ≤ too_many + 1 }
     ensures { result ≡ capped (so_far + length (spans too_many step first (gather (point_at points.now) i (e - i)))) }
 {
-    let mut j = i;
     let mut n = so_far;
     let mut p = first;
-    while j < e {
+    for j in i..e {
         if MOST_POINTS < n {
             return TOO_MANY;
         }
@@ -295,7 +270,6 @@ fn count_spans(points: &[f64], i: usize, e: usize, first: Vector, step: f64, so_
         let l = reach(q.sub(p).length_squared(), step);
         n = n + count_steps(l, step, TOO_MANY - n) + 1;
         p = q;
-        j += 1;
     }
     cap(n)
 }
@@ -305,7 +279,7 @@ fn count_stroke(points: &[f64], a: usize, e: usize, step: f64, so_far: usize) ->
     requires { so_far ≤ too_many }
     ensures { result ≡ capped (so_far + length (chopped too_many step (gather (point_at points.now) a (e - a)))) }
 {
-    if kept(a, e) == 0 {
+    if !kept(a, e) {
         return cap(so_far);
     }
     count_spans(points, a + 1, e, point_at(points, a), step, so_far + 1)
@@ -316,12 +290,10 @@ fn count_strokes(points: &[f64], starts: &[u32], step: f64) -> usize
     ensures { result ≡ capped (length (joined (chopped_of step points.now starts.now))) }
 {
     let mut n = 0;
-    let mut j = 0;
-    while j < starts.len() {
+    for j in 0..starts.len() {
         let a = starts[j] as usize;
         let e = end_of(starts, j, points.len() / 3);
         n = count_stroke(points, a, e, step, n);
-        j += 1;
     }
     n
 }
@@ -331,12 +303,12 @@ fn kept_strokes(points: &[f64], starts: &[u32]) -> usize
     ensures { (step : Float) → result ≡ length (non_empty (chopped_of step points.now starts.now)) }
 {
     let mut k = 0;
-    let mut j = 0;
-    while j < starts.len() {
+    for j in 0..starts.len() {
         let a = starts[j] as usize;
         let e = end_of(starts, j, points.len() / 3);
-        k = k + kept(a, e);
-        j += 1;
+        if kept(a, e) {
+            k += 1;
+        }
     }
     k
 }
@@ -372,25 +344,25 @@ fn chop_verdict(
     step: f64,
     room: usize,
     start_room: usize,
-) -> Verdict
+) -> Result<(), Refusal>
     ensures { result ≡ verdict_of points.now starts.now step room start_room }
 {
     if !shaped(points, starts) {
-        return Verdict::Refused(Refusal::Shape);
+        return Err(Refusal::Shape);
     }
     if !counted(points.len() / 3, starts.len()) {
-        return Verdict::Refused(Refusal::Count);
+        return Err(Refusal::Count);
     }
     if !coordinates_good(points) {
-        return Verdict::Refused(Refusal::Number);
+        return Err(Refusal::Number);
     }
     if !step_good(step) {
-        return Verdict::Refused(Refusal::Number);
+        return Err(Refusal::Number);
     }
     if !fits(points, starts, step, room, start_room) {
-        return Verdict::Refused(Refusal::Room);
+        return Err(Refusal::Room);
     }
-    Verdict::Accepted
+    Ok(())
 }
 
 // Cuts every stroke into steps; a stroke of one point vanishes.
@@ -400,19 +372,10 @@ pub fn chop(
     step: f64,
     out_points: &mut [f64],
     out_starts: &mut [u32],
-) -> Chopped
-    ensures { left (said result) out_points.new out_starts.new
+) -> Result<Place, Refusal>
+    ensures { left (placed_said result) out_points.new out_starts.new
         ≡ chop_left points.now starts.now step out_points.old out_starts.old }
 {
-    let v = chop_verdict(points, starts, step, out_points.len(), out_starts.len());
-    match v {
-        Verdict::Accepted => {
-            let p = write_strokes(points, starts, step, out_points, out_starts);
-            Chopped::Wrote {
-                points: p.points,
-                starts: p.starts,
-            }
-        }
-        Verdict::Refused(r) => Chopped::Refused(r),
-    }
+    chop_verdict(points, starts, step, out_points.len(), out_starts.len())?;
+    Ok(write_strokes(points, starts, step, out_points, out_starts))
 }

@@ -3,7 +3,6 @@ pub mod Classing
 pub mod Asides
 pub mod Orders
 pub mod Words
-pub mod Filling
 pub mod Lines
 pub mod Labels
 pub mod Unique

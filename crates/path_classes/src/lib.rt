@@ -1,5 +1,7 @@
 // Points told apart by their numbers: each gets the number of the first that is the same.
-// With m points there are, in words of scratch, their classes, then their order, room for the sort, and three keys.
+// With m points there are, in words of scratch, their classes, then their order, room for the sort, and three keys. The words and m stay two
+// parameters: a struct of both would hold a `&mut` and be made anew for each call, and one of the counts alone would leave as many clauses,
+// that the words are as long as it says.
 #![tactic(auto)]
 
 ghost use Rattle.std.specs.Prelude.{◌≡◌, ℕ, ◌*◌, ◌^◌, ◌<◌, ◌≤◌, true, false, length, if◌then◌else◌, to_bits};
@@ -70,10 +72,8 @@ fn count_up(m: usize, s: &mut [u32])
     requires { (m ≤ 2 * most_strokes) × (6 * m ≤ length s.old) }
     ensures { Aside s.old s.new m (2 * m) × Stored (λ e. e) s.new m m }
 {
-    let mut e: usize = 0;
-    while e < m {
+    for e in 0..m {
         s[m + e] = e as u32;
-        e += 1;
     }
 }
 
@@ -82,13 +82,11 @@ fn fill_keys(points: &[f64], m: usize, s: &mut [u32])
     requires { (m ≤ 2 * most_strokes) × (6 * m ≤ length s.old) }
     ensures { Keys points.now s.old s.new m m }
 {
-    let mut e: usize = 0;
-    while e < m {
+    for e in 0..m {
         let h = mix(point_at(points, e));
         s[3 * m + e] = (h % 0x4_0000) as u32;
         s[4 * m + e] = (h / 0x4_0000 % 0x4_0000) as u32;
         s[5 * m + e] = (h / 0x10_0000_0000) as u32;
-        e += 1;
     }
 }
 
@@ -119,14 +117,12 @@ fn mixed_up(points: &[f64], m: usize, s: &[u32]) -> bool
     requires { (m ≤ 2 * most_strokes) × (6 * m ≤ length s.now) }
     ensures { result ≡ false → Apart points.now s.now m m }
 {
-    let mut x: usize = 1;
-    while x < m {
+    for x in 1..m {
         let a = point_at(points, s[m + x - 1] as usize);
         let b = point_at(points, s[m + x] as usize);
         if clash(a, b) {
             return true;
         }
-        x += 1;
     }
     false
 }
@@ -160,10 +156,8 @@ fn fill_words(points: &[f64], m: usize, s: &mut [u32], j: u32)
     requires { (m ≤ 2 * most_strokes) × (6 * m ≤ length s.old) }
     ensures { Aside s.old s.new (3 * m) (4 * m) × Stored (λ e. word_of (point_at points.now e) j) s.new (3 * m) m }
 {
-    let mut e: usize = 0;
-    while e < m {
+    for e in 0..m {
         s[3 * m + e] = word(point_at(points, e), j);
-        e += 1;
     }
 }
 
@@ -173,11 +167,9 @@ fn by_words(points: &[f64], m: usize, s: &mut [u32])
     ensures { Ordered s.old s.new m (word_order points.now 6) }
 {
     count_up(m, s);
-    let mut j: u32 = 0;
-    while j < 6 {
+    for j in 0..6 {
         fill_words(points, m, s, j);
         sort_words(s, 3 * m, 4 * m, m, 2 * m, m);
-        j += 1;
     }
 }
 
@@ -208,13 +200,11 @@ fn label(points: &[f64], m: usize, s: &mut [u32])
     requires together { Together points.now m (region s.old m m) }
     ensures { Aside s.old s.new 0 m × Stored (class_of same_point (point_at points.now)) s.new 0 m }
 {
-    let mut x: usize = 0;
     let mut c: u32 = 0;
-    while x < m {
+    for x in 0..m {
         let e = s[m + x];
         c = class_after(points, c, e);
         s[e as usize] = c;
-        x += 1;
     }
 }
 

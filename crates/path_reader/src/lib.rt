@@ -8,7 +8,7 @@ ghost use Rattle.path_reader.specs.Reading.{least, first_at, Own, left_at, strok
 use path::end_of;
 
 // The lent points and starts, and the number of the stroke that comes next.
-#[derive(Clone, Copy)]
+#[derive(Clone, Copy, Debug, PartialEq, Eq)]
 pub struct Reader<'a> {
     pub points: &'a [u32],
     pub starts: &'a [u32],
@@ -20,10 +20,7 @@ fn lesser(x: usize, y: usize) -> usize
     ensures value { result ≡ least x y }
     ensures upper_bound { (result ≤ x) × (result ≤ y) }
 {
-    if x < y {
-        return x;
-    }
-    y
+    x.min(y)
 }
 
 // The place of stroke i's first point, of n in all; past the table n.
@@ -59,10 +56,7 @@ pub fn stroke_at<'a>(points: &'a [u32], starts: &'a [u32], i: usize) -> &'a [u32
 pub fn left_at(starts: &[u32], i: usize) -> usize
     ensures { result ≡ left_at starts.now i }
 {
-    if i < starts.len() {
-        return starts.len() - i;
-    }
-    0
+    starts.len().saturating_sub(i)
 }
 
 // The number of the stroke after the i-th; past the table it stays.
@@ -86,7 +80,7 @@ pub fn new<'a>(points: &'a [u32], starts: &'a [u32]) -> Reader<'a>
     }
 }
 
-// How many strokes are left: 0 says that none is.
+// How many strokes are left: 0 says that none is. (That and `next` are two functions, as the contracts and C name them, and no Option.)
 pub fn left<'a>(r: Reader<'a>) -> usize
     ensures { result ≡ left_at r.entry.starts.now r.entry.at }
 {

@@ -1,15 +1,15 @@
 -- The words of segments: what is numbered and filled in, threaded, and read out.
 use mathlib.Core.Path.{◌≡◌, refl, sym, ap, ◌∙◌}
-use mathlib.Core.Bool.{true, false, ◌&&◌}
+use mathlib.Core.Bool.{true, false}
 use mathlib.Core.Logic.{inl, inr}
 use mathlib.Core.List.{List, [], ◌∷◌, ◌++◌, map}
-use Prim.Native.Nat.{ℕ, suc, ◌+◌, ◌-◌, ◌*◌, ◌≤◌, ◌<◌}
+use Prim.Native.Nat.{ℕ, ◌+◌, ◌-◌, ◌*◌, ◌≤◌, ◌<◌}
 use native.Mathlib.Omega.{arith}
-use lib.ListN.{length, get_or, set, take, drop, replicate, length-append, length-drop, length-replicate}
+use lib.ListN.{length, get_or, take, drop, replicate, length-append, length-drop, length-replicate}
 use lib.Seq.{take-take, take_at, take_all}
-use lib.Dec.{leb, eqb}
+use lib.Dec.{eqb}
 use lib.Ieee.{Float}
-use borrow.Author.Tests.{le-leb, leb-true}
+use borrow.Author.Tests.{le-leb}
 use Rattle.refusal.specs.Limits.{most_strokes, most_points}
 use Rattle.refusal.specs.Said.{Said, accepted}
 use Rattle.vector.specs.declared.Vector.{Vector}
@@ -20,7 +20,6 @@ use Rattle.path.specs.Laid.{over}
 use Rattle.path.specs.InnerPushes.{put_points}
 use Rattle.path.proofs.Gathers.{length-gather, gather-at}
 use Rattle.path.proofs.Points.{points_lie}
-use Rattle.path.proofs.Tests.{both}
 use Rattle.path_splice_rule.specs.Splice.{present, value_at}
 use Rattle.path_splice_rule.specs.Demand.{Law}
 use Rattle.path_splice_links.specs.Walk.{Woven, threaded, thread_in}
@@ -30,29 +29,10 @@ use Rattle.path_splice.proofs.Answers.{text_most, marks-most, laid_by}
 use Rattle.path_classes.specs.Classes.{same_point, class_of, numbered}
 use Rattle.path_classes.proofs.Same.{point_eq, point_self}
 use Rattle.path_classes.proofs.Classing.{class-agree}
+use Rattle.path_splice.specs.InnerPairs.{strokes_fit}
 use Rattle.path_segments.specs.Join.{segments_in, origin, join_of, left, laid, join_fits, join_left}
 use Rattle.path_segments.specs.InnerJoin.{Drawn}
 use Rattle.path_segments.proofs.Segments.{segments-count, segments-there, segments-points, value-is}
-
--- ---- what is filled in
-
-pub fill_none : (s : List ℕ) (a n : ℕ) → put s (a + 0) (replicate (n - 0) 1) ≡ put s a (replicate n 1)
-fill_none s a n =
-    let p : n - 0 ≡ n = omega arith in
-    let q : a + 0 ≡ a = omega arith in
-    rw (p, q)
-
--- one word more of those filled in, and no more
-pub fill_turn : (s : List ℕ) (a n i : ℕ) → i < n → put (set s (a + i) 1) (a + (i + 1)) (replicate (n - (i + 1)) 1) ≡ put s (a + i) (replicate (n - i) 1)
-unfolding put
-fill_turn s a n i h =
-    let p : n - i ≡ suc (n - (i + 1)) = omega arith in
-    let q : a + (i + 1) ≡ suc (a + i) = omega arith in
-    rw (p, q)
-
-pub fill_end : (s : List ℕ) (a n i : ℕ) → n ≤ i → put s (a + i) (replicate (n - i) 1) ≡ s
-unfolding put
-fill_end s a n i h = let z : n - i ≡ 0 = omega arith in rw z
 
 -- ---- what is numbered, filled in and threaded
 
@@ -137,23 +117,15 @@ module _ (ps : List Float) (n c : ℕ) (s₀ s1 s2 s3 : List ℕ) (H : 12 * n �
 
 -- ---- the answer
 
-pub join-fits : (n words room starts : ℕ) → join_fits n words room starts ≡ true → (12 * n ≤ words) × (n ≤ most_strokes) × (6 * n ≤ room) × (n ≤ starts)
-unfolding join_fits
-join-fits n words room starts h =
-    let a = both (leb n most_strokes && leb (12 * n) words && leb (6 * n) room) (leb n starts) h in
-    let b = both (leb n most_strokes && leb (12 * n) words) (leb (6 * n) room) a.0 in
-    let d = both (leb n most_strokes) (leb (12 * n) words) b.0 in
-    (leb-true _ _ d.1, leb-true _ _ d.0, leb-true _ _ b.1, leb-true _ _ a.1)
-
 same_left : {a b : Said ℕ} {s t : List ℕ} {op op' : List Float} {os os' : List ℕ} → a ≡ b → s ≡ t → op ≡ op' → os ≡ os' → left a s op os ≡ left b t op' os'
 same_left a b c d = cc
 
 module _ (ps : List Float) (n : ℕ) (s : List ℕ) (op : List Float) (os : List ℕ) where
-  pub join-no : join_fits n (length s) (length op) (length os) ≡ false → left (accepted (0 ∷ 0 ∷ [])) s op os ≡ join_left ps n s op os
-  unfolding join_left
+  pub join-no : strokes_fit 12 6 n (length s) (length op) (length os) ≡ false → left (accepted (0 ∷ 0 ∷ [])) s op os ≡ join_left ps n s op os
+  unfolding join_left join_fits strokes_fit
   join-no h = rw h
 
-  pub join-yes : join_fits n (length s) (length op) (length os) ≡ true → (s' s1 : List ℕ) (op' : List Float) (os' : List ℕ) (p q : ℕ) → s' ≡ over s (replicate (12 * n) 0) → Drawn ps n s s1 op os op' os' p q
+  pub join-yes : strokes_fit 12 6 n (length s) (length op) (length os) ≡ true → (s' s1 : List ℕ) (op' : List Float) (os' : List ℕ) (p q : ℕ) → s' ≡ over s (replicate (12 * n) 0) → Drawn ps n s s1 op os op' os' p q
       → left (accepted (p ∷ q ∷ [])) s' op' os' ≡ join_left ps n s op os
-  unfolding join_left laid
+  unfolding join_left laid join_fits strokes_fit
   join-yes h s' s1 op' os' p q e D = rw h (same_left (rw (D.out.many, D.out.strokes)) e D.out.points D.out.starts)

@@ -12,22 +12,20 @@ ghost use Rattle.path_segments.specs.Join.{segments_in, join_fits, left, join_le
 ghost use Rattle.path_segments.specs.InnerJoin.{Drawn};
 
 use order::clear;
-use path::{Place, point_at, put_number, put_point};
+use path::{Place, point_at, put_point};
 use path_classes::number_points;
-use path_splice_links::{ORDER, TODO, thread};
+use path_splice::{fits, put_mark};
+use path_splice_links::{ORDER, TODO, WORDS, thread};
 use path_splice_rule::Endpoint;
-use refusal::MOST_STROKES;
 
 // Writes that each of n segments is there.
 fn fill_todo(s: &mut [u32], n: usize)
     requires { (12 * n ≤ length s.old) × (n ≤ most_strokes) }
     ensures { s.new ≡ put s.old (todo_at n) (replicate n 1) }
 {
-    let mut i: usize = 0;
-    while i < n {
-        s[TODO * n + i] = 1;
-        i += 1;
-    }
+    let t = TODO * n;
+    let h = WORDS * n;
+    s[t..h].fill(1);
 }
 
 // Writes what entry x of an order of n segments reads, and answers the place after it: a joined segment loses its first
@@ -51,19 +49,8 @@ fn read_entry(points: &[f64], n: usize, x: u32, out: &mut [f64], at: usize) -> u
     at + 2
 }
 
-// Writes the start of a stroke where entry x begins one, and answers the place after it.
-fn put_mark(out: &mut [u32], q: usize, p: usize, x: u32) -> usize
-    requires { (q ≤ most_strokes) × (p ≤ most_points) }
-    ensures { (out.new ≡ put out.old q (start_mark p x)) × (result ≡ q + length (start_mark p x)) }
-{
-    if x % 2 == 1 {
-        put_number(out, q, p as u32);
-        return q + 1;
-    }
-    q
-}
-
-// Writes the strokes that an order joins.
+// Writes the strokes that an order joins. It is no one function with path_splice's: each reads what its entries say in its own way, and
+// a trait for that would be longer than this loop.
 fn read_out(
     points: &[f64],
     n: usize,
@@ -77,12 +64,9 @@ fn read_out(
 {
     let mut p: usize = 0;
     let mut q: usize = 0;
-    let mut j: usize = 0;
-    while j < order.len() {
-        let x = order[j];
-        q = put_mark(out_starts, q, p, x);
-        p = read_entry(points, n, x, out_points, p);
-        j += 1;
+    for x in order {
+        q = put_mark(out_starts, q, p, *x);
+        p = read_entry(points, n, *x, out_points, p);
     }
     Place {
         points: p,
@@ -110,24 +94,9 @@ fn join_in(
     read_out(points, n, &s[m..e], out_points, out_starts)
 }
 
-// Whether n segments have room.
-fn fits(n: usize, words: usize, room: usize, start_room: usize) -> bool
-    ensures { result ≡ join_fits n words room start_room }
-{
-    if MOST_STROKES < n {
-        return false;
-    }
-    if words < 12 * n {
-        return false;
-    }
-    if room < 6 * n {
-        return false;
-    }
-    n <= start_room
-}
-
 // Joins the first n segments of a list of points, two points each, into lent room. The first 12 n words are zero after
 // it. Where it does not fit, nothing is changed and nothing written.
+#[tactic(auto, using(path_splice::proofs::Pairs::fit_all))]
 pub fn join_segments(
     points: &[f64],
     n: usize,
@@ -138,7 +107,7 @@ pub fn join_segments(
     ensures { left (accepted (result.points ∷ result.starts ∷ [])) s.new out_points.new out_starts.new
         ≡ join_left points.now n s.old out_points.old out_starts.old }
 {
-    if !fits(n, s.len(), out_points.len(), out_starts.len()) {
+    if !fits::<12, 6>(n, s.len(), out_points.len(), out_starts.len()) {
         return Place {
             points: 0,
             starts: 0,

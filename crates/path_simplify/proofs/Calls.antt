@@ -1,4 +1,5 @@
 -- What an accepted simplify has been tested for, and what then holds.
+use Rattle.std.specs.Prelude.{Ok}
 use mathlib.Core.Path.{◌≡◌}
 use mathlib.Core.Bool.{true}
 use mathlib.Core.List.{List}
@@ -9,7 +10,6 @@ use lib.Dec.{leb, eqb}
 use lib.Ieee.{Float}
 use borrow.Author.Tests.{leb-true}
 use Rattle.refusal.specs.Limits.{most_points, most_strokes}
-use Rattle.refusal.specs.declared.Verdict.TheVariants.{Accepted}
 use Rattle.path.specs.Strokes.{good_starts, point_at}
 use Rattle.path.specs.Laid.{joined, non_empty}
 use Rattle.path.specs.Tests.{shaped_of}
@@ -29,7 +29,7 @@ pub record Good (ps : List Float) (ss : List ℕ) (t : Float) (room start_room :
   pub short : short_of (length ps / 3) ss ≡ true
 
 module _ (ps : List Float) (ss : List ℕ) (t : Float) (room start_room : ℕ) where
-  pub simplify_accepted : verdict_of ps ss t room start_room ≡ Accepted → Good ps ss t room start_room
+  pub simplify_accepted : verdict_of ps ss t room start_room ≡ (Ok tt) → Good ps ss t room start_room
   unfolding verdict_of shaped_of room_for
   simplify_accepted h =
       let shape = passed _ _ _ h in

@@ -1,7 +1,7 @@
 pub mod Squares
 pub mod Thins
 pub mod SplitTest
-pub mod Notes
+pub mod Noted
 pub mod Totals
 pub mod Calls
 pub mod Unique

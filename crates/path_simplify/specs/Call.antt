@@ -1,24 +1,22 @@
 -- What a call of simplify answers and leaves in the two lists lent to it.
-use Rattle.std.specs.Prelude.{Bool, true, ◌&&◌, List, [], ◌∷◌, ℕ, ◌-◌, ◌/◌, length, get_or, leb, Float}
+use Rattle.std.specs.Prelude.{Result, Ok, Bool, true, ◌&&◌, List, [], ◌∷◌, ℕ, ◌-◌, ◌/◌, length, get_or, leb, Float}
 use Rattle.std.specs.Float.Ieee.{le}
 use Rattle.refusal.specs.Limits.{most_to_simplify}
 use Rattle.refusal.specs.Refusals.{unless}
-use Rattle.refusal.specs.Said.{Said, accepted, refused}
+use Rattle.refusal.specs.Said.{Said, said_by}
 use Rattle.refusal.specs.Outcome.{Outcome, outcome}
+use Rattle.refusal.specs.declared.Refusal.{Refusal}
 use Rattle.refusal.specs.declared.Refusal.TheVariants.{Shape, Count, Number, Room}
-use Rattle.refusal.specs.declared.Verdict.{Verdict}
-use Rattle.refusal.specs.declared.Verdict.TheVariants.{Accepted}
+use Rattle.refusal.specs.Refusals.{Verdict}
 use Rattle.vector.specs.Lengths.{zero64}
 use Rattle.path.specs.Tests.{shaped_of, counted_of, coordinates_good}
 use Rattle.path.specs.Call.{Lent, lent, laid}
 use Rattle.path_simplify.specs.declared.Simplified.{Simplified}
-use Rattle.path_simplify.specs.declared.Simplified.TheVariants as S
 use Rattle.path_simplify.specs.Simplify.{simplified, distances, simplified_of}
 
 -- the answer's number and values
-abbrev pub said : Simplified → Said ℕ
-said (S.Wrote points starts measured) = accepted (points ∷ starts ∷ measured ∷ [])
-said (S.Refused r) = refused r
+abbrev pub said : Result Simplified Refusal → Said ℕ
+said r = said_by (λ p. p.points ∷ p.starts ∷ p.distances ∷ []) r
 
 -- no stroke of n points is too long to simplify
 unfoldable pub short_of : ℕ → List ℕ → Bool
@@ -41,7 +39,7 @@ verdict_of ps ss t room start_room =
     (unless (coordinates_good ps) Number
     (unless (threshold_good t) Number
     (unless (room_for (length ps) (length ss) room start_room) Room
-    Accepted)))))
+    (Ok tt))))))
 
 unfoldable pub simplify_left : List Float → List ℕ → Float → List Float → List ℕ → Outcome Lent
 simplify_left ps ss t op os =

@@ -1,5 +1,5 @@
 -- The scan without roots: a distance is the root of a square, and roots keep the order.
-use Rattle.std.specs.Prelude.{◌≡◌, true, cond, ◌⊎◌, T, Float, ℕ}
+use Rattle.std.specs.Prelude.{Option, Some, None, ◌≡◌, true, cond, ◌⊎◌, T, Float, ℕ}
 use Rattle.std.specs.Float.{binary64}
 use Rattle.std.specs.Float.Ieee.{fits, lt}
 use Rattle.vector.specs.declared.Vector.{Vector}
@@ -9,15 +9,15 @@ use Rattle.vector.specs.Root.{root_of}
 use Rattle.path_simplify.specs.declared.Best.{Best}
 use Rattle.path_simplify.specs.declared.Records.{Records}
 use Rattle.path.specs.declared.Place.{Place}
-use Rattle.path_simplify.specs.declared.Progress.{Progress}
+use Rattle.path_simplify.specs.declared.Simplified.{Simplified}
 use Rattle.path_simplify.specs.Simplify.{Far, splits_at}
 
--- the place that splits the points from lo on, lo itself where none does
-unfoldable pub split_of : Far → ℕ → Float → ℕ
-split_of f lo t = cond (splits_at f lo t) f.at lo
+-- the place that splits the points from lo on, if one does
+unfoldable pub split_of : Far → ℕ → Float → Option ℕ
+split_of f lo t = cond (splits_at f lo t) (Some f.at) None
 
 -- the places in the course of a call
-abbrev pub places_in : Progress → Place
+abbrev pub places_in : Simplified → Place
 places_in w = record { points = w.points; starts = w.starts }
 
 -- the square of the distance of p from the segment from v to w

@@ -1,6 +1,8 @@
 // Leaving points out of strokes: path_simplify of the source, over lent lists.
 #![tactic(auto)]
 
+mod notes;
+
 ghost use Rattle.std.specs.Prelude.{◌≡◌, true, false, ◌+◌, ◌-◌, ◌/◌, ◌≤◌, ◌<◌, length, get_or, leb};
 ghost use Rattle.std.specs.Float.{binary64};
 ghost use Rattle.std.specs.Float.Ieee.{div, eq, lt};
@@ -14,41 +16,21 @@ ghost use Rattle.path_simplify.specs.Simplify.{farther_of, farthest, splits_at, 
 ghost use Rattle.path_simplify.specs.InnerSquares.{split_of, places_in};
 ghost use Rattle.vector.specs.Lengths.{zero64, one64, segment_distance_of};
 ghost use Rattle.path_simplify.specs.InnerSquares.{segment_square_of, far_of, settled_of, Rising};
-ghost use Rattle.path_simplify.specs.InnerNotes.{notes_long, cleared, measured, noted, count_noted, thin_at, plus};
+ghost use Rattle.path_simplify.specs.InnerNotes.{thin_at, plus};
 ghost use Rattle.path_simplify.specs.Call.{said, short_of, room_for, threshold_good, verdict_of, simplify_left};
 
-use path::{Place, coordinates_good, counted, end_of, point_at, put_number, put_point, shaped};
-use refusal::{MOST_TO_SIMPLIFY, Refusal, Verdict};
+use crate::notes::Notes;
+use path::{Place, coordinates_good, counted, end_of, point_at, put, put_point, shaped};
+use refusal::{MOST_TO_SIMPLIFY, Refusal};
 use vector::Vector;
 use vector::number::{root_above, root_exceeds};
 
-// What simplify wrote and how many distances it measured, or why it was refused.
-#[derive(Clone, Copy)]
-pub enum Simplified {
-    Wrote {
-        points: usize,
-        starts: usize,
-        distances: usize,
-    },
-    Refused(Refusal),
-}
-
-// The notes on a stroke of the most points: two counts, and a place for each point.
-const NOTES: usize = MOST_TO_SIMPLIFY + 2;
-
-// Where the next point goes, and how many distances were measured.
-#[derive(Clone, Copy)]
-struct Kept {
-    points: usize,
-    distances: usize,
-}
-
-// Where the next point and the next start go, and how many distances were measured.
-#[derive(Clone, Copy)]
-struct Progress {
-    points: usize,
-    starts: usize,
-    distances: usize,
+// How many points and starts simplify wrote, and how many distances it measured: so far, where the next ones go.
+#[derive(Clone, Copy, Debug, PartialEq, Eq)]
+pub struct Simplified {
+    pub points: usize,
+    pub starts: usize,
+    pub distances: usize,
 }
 
 // The farthest point of a scan so far: its place, and the square of how far it is.
@@ -146,7 +128,7 @@ fn settle(r: Records) -> Best
     third
 }
 
-// The point at place i, which is there: nothing is tested.
+// The point at place i, which is there: nothing is tested. (mesh_weld reads vertices so too: path lends no function that asks anything.)
 fn point_in(points: &[f64], i: usize) -> Vector
     requires { i < length points.now / 3 }
     ensures { result ≡ point_at points.now i }
@@ -175,10 +157,8 @@ fn find_far(points: &[f64], lo: usize, hi: usize) -> Best
         second: none,
         third: none,
     };
-    let mut i = lo + 1;
-    while i < hi {
+    for i in lo + 1..hi {
         best = farther(best, i, point_in(points, i), a, b);
-        i += 1;
     }
     settle(best)
 }
@@ -194,71 +174,46 @@ fn splits(f: Best, lo: usize, threshold: f64) -> bool
     false
 }
 
-// The place that splits the points from lo up to hi, lo itself where none does. A function of its own and called at more than
+// The place that splits the points from lo up to hi, if one does. A function of its own and called at more than
 // one place, so that the search is no part of `keep`: what `keep` holds is held once for each level.
-fn split_at(points: &[f64], lo: usize, hi: usize, threshold: f64) -> usize
+fn split_at(points: &[f64], lo: usize, hi: usize, threshold: f64) -> Option<usize>
     requires { (lo < hi) × (hi < length points.now / 3) }
     ensures { result ≡ split_of (farthest (point_at points.now) lo hi) lo threshold }
 {
     let f = find_far(points, lo, hi);
     if splits(f, lo, threshold) {
-        return f.at;
+        return Some(f.at);
     }
-    lo
+    None
 }
 
-// Begins the notes on a stroke: no distance measured, no place kept.
-fn clear(kept: &mut [usize; NOTES])
-    ensures { kept.new ≡ cleared kept.old }
-{
-    kept[0] = 0;
-    kept[1] = 0;
-}
-
-// Notes that d distances more were measured.
-fn measure(kept: &mut [usize; NOTES], d: usize)
-    requires { get_or kept.old 0 0 + d ≤ 4294967296 }
-    ensures { kept.new ≡ measured kept.old d }
-{
-    kept[0] = kept[0] + d;
-}
-
-// Notes that the point at place i is kept.
-fn note(kept: &mut [usize; NOTES], i: usize)
-    requires { count_noted kept.old < most_to_simplify }
-    ensures { kept.new ≡ noted kept.old i }
-{
-    let n = kept[1];
-    kept[n + 2] = i;
-    kept[1] = n + 1;
-}
-
-// Notes what is kept of the points from lo up to hi, but for the last, by recursion on the falling length. They are split at m.
-fn keep(points: &[f64], lo: usize, m: usize, hi: usize, threshold: f64, kept: &mut [usize; NOTES])
+// Notes what is kept of the points from lo up to hi, but for the last, by recursion on the falling length. They are split at m, if anywhere.
+fn keep(points: &[f64], lo: usize, m: Option<usize>, hi: usize, threshold: f64, kept: &mut Notes)
     requires { (lo < hi) × (hi < length points.now / 3) × (m ≡ split_of (farthest (point_at points.now) lo hi) lo threshold)
-        × (count_noted kept.old + length (thin (hi - lo) threshold (point_at points.now) lo hi).points ≤ most_to_simplify)
-        × (get_or kept.old 0 0 + (thin (hi - lo) threshold (point_at points.now) lo hi).measured ≤ 4294967296) × (length kept.old ≡ notes_long) }
+        × (kept.old.count + length (thin (hi - lo) threshold (point_at points.now) lo hi).points ≤ most_to_simplify)
+        × (kept.old.distances + (thin (hi - lo) threshold (point_at points.now) lo hi).measured ≤ 4294967296) }
     ensures { (thin_at (point_at points.now) kept.new ≡ plus (thin_at (point_at points.now) kept.old) (thin (hi - lo) threshold (point_at points.now) lo hi))
-        × (count_noted kept.new ≡ count_noted kept.old + length (thin (hi - lo) threshold (point_at points.now) lo hi).points) × (length kept.new ≡ notes_long) }
+        × (kept.new.count ≡ kept.old.count + length (thin (hi - lo) threshold (point_at points.now) lo hi).points) }
 {
-    measure(kept, hi - lo - 1);
-    if m <= lo {
-        note(kept, lo);
-        return;
+    kept.measure(hi - lo - 1);
+    match m {
+        None => kept.note(lo),
+        Some(at) => {
+            let l = split_at(points, lo, at, threshold);
+            keep(points, lo, l, at, threshold, kept);
+            let r = split_at(points, at, hi, threshold);
+            keep(points, at, r, hi, threshold, kept);
+        }
     }
-    let l = split_at(points, lo, m, threshold);
-    keep(points, lo, l, m, threshold, kept);
-    let r = split_at(points, m, hi, threshold);
-    keep(points, m, r, hi, threshold, kept);
 }
 
 // The same, where there may be no points between.
-fn keep_front(points: &[f64], lo: usize, hi: usize, threshold: f64, kept: &mut [usize; NOTES])
+fn keep_front(points: &[f64], lo: usize, hi: usize, threshold: f64, kept: &mut Notes)
     requires { (hi < length points.now / 3)
-        × (count_noted kept.old + length (thin (hi - lo) threshold (point_at points.now) lo hi).points ≤ most_to_simplify)
-        × (get_or kept.old 0 0 + (thin (hi - lo) threshold (point_at points.now) lo hi).measured ≤ 4294967296) × (length kept.old ≡ notes_long) }
+        × (kept.old.count + length (thin (hi - lo) threshold (point_at points.now) lo hi).points ≤ most_to_simplify)
+        × (kept.old.distances + (thin (hi - lo) threshold (point_at points.now) lo hi).measured ≤ 4294967296) }
     ensures { (thin_at (point_at points.now) kept.new ≡ plus (thin_at (point_at points.now) kept.old) (thin (hi - lo) threshold (point_at points.now) lo hi))
-        × (count_noted kept.new ≡ count_noted kept.old + length (thin (hi - lo) threshold (point_at points.now) lo hi).points) × (length kept.new ≡ notes_long) }
+        × (kept.new.count ≡ kept.old.count + length (thin (hi - lo) threshold (point_at points.now) lo hi).points) }
 {
     if hi <= lo {
         return;
@@ -268,26 +223,23 @@ fn keep_front(points: &[f64], lo: usize, hi: usize, threshold: f64, kept: &mut [
 }
 
 // Notes what is kept of a stroke from place a up to e, its last point too.
-fn keep_stroke(points: &[f64], a: usize, e: usize, threshold: f64, kept: &mut [usize; NOTES])
-    requires { (a < e) × (e - a ≤ most_to_simplify) × (e ≤ length points.now / 3) × (length kept.old ≡ notes_long) }
+fn keep_stroke(points: &[f64], a: usize, e: usize, threshold: f64, kept: &mut Notes)
+    requires { (a < e) × (e - a ≤ most_to_simplify) × (e ≤ length points.now / 3) }
     ensures { (thin_at (point_at points.now) kept.new ≡ thinned threshold (point_at points.now) a e)
-        × (count_noted kept.new ≡ length (thinned threshold (point_at points.now) a e).points) × (length kept.new ≡ notes_long) }
+        × (kept.new.count ≡ length (thinned threshold (point_at points.now) a e).points) }
 {
-    clear(kept);
+    kept.clear();
     keep_front(points, a, e - 1, threshold, kept);
-    note(kept, e - 1);
+    kept.note(e - 1);
 }
 
 // Writes the points at the places noted.
-fn lay(points: &[f64], kept: &[usize; NOTES], out: &mut [f64], at: usize)
-    requires { (length kept.now ≡ notes_long) × (count_noted kept.now ≤ most_to_simplify) × (at + count_noted kept.now ≤ most_points) }
+fn lay(points: &[f64], kept: &Notes, out: &mut [f64], at: usize)
+    requires { at + kept.now.count ≤ most_points }
     ensures { out.new ≡ put_points out.old at (thin_at (point_at points.now) kept.now).points }
 {
-    let n = kept[1];
-    let mut i = 0;
-    while i < n {
-        put_point(out, at + i, point_at(points, kept[i + 2]));
-        i += 1;
+    for i in 0..kept.count {
+        put_point(out, at + i, point_at(points, kept.places[i]));
     }
 }
 
@@ -299,19 +251,16 @@ fn write_thinned(
     threshold: f64,
     out: &mut [f64],
     at: usize,
-    kept: &mut [usize; NOTES],
-) -> Kept
-    requires { (a < e) × (e - a ≤ most_to_simplify) × (e ≤ length points.now / 3) × (length kept.old ≡ notes_long)
+    kept: &mut Notes,
+)
+    requires { (a < e) × (e - a ≤ most_to_simplify) × (e ≤ length points.now / 3)
         × (at + length (thinned threshold (point_at points.now) a e).points ≤ most_points) }
-    ensures { (course out.new result.points ≡ advanced put_points (course out.old at) (thinned threshold (point_at points.now) a e).points)
-        × (result.distances ≡ (thinned threshold (point_at points.now) a e).measured) × (length kept.new ≡ notes_long) }
+    ensures { (course out.new (at + kept.new.count) ≡ advanced put_points (course out.old at) (thinned threshold (point_at points.now) a e).points)
+        × (kept.new.count ≡ length (thinned threshold (point_at points.now) a e).points)
+        × (kept.new.distances ≡ (thinned threshold (point_at points.now) a e).measured) }
 {
     keep_stroke(points, a, e, threshold, kept);
     lay(points, kept, out, at);
-    Kept {
-        points: at + kept[1],
-        distances: kept[0],
-    }
 }
 
 // Writes a stroke and its start; of an empty one nothing.
@@ -322,26 +271,26 @@ fn write_stroke(
     threshold: f64,
     out_points: &mut [f64],
     out_starts: &mut [u32],
-    w: Progress,
-    kept: &mut [usize; NOTES],
-) -> Progress
-    requires { (e - a ≤ most_to_simplify) × (length kept.old ≡ notes_long) × (w.points + length (thinned threshold (point_at points.now) a e).points ≤ most_points) × (w.starts ≤ most_points)
+    w: Simplified,
+    kept: &mut Notes,
+) -> Simplified
+    requires { (e - a ≤ most_to_simplify) × (w.points + length (thinned threshold (point_at points.now) a e).points ≤ most_points) × (w.starts ≤ most_points)
         × (w.distances + (thinned threshold (point_at points.now) a e).measured ≤ 4294967296) × (e ≤ length points.now / 3) }
     ensures { (out out_points.new out_starts.new (places_in result)
         ≡ push put_points (out out_points.old out_starts.old (places_in w)) (thinned threshold (point_at points.now) a e).points)
-        × (result.distances ≡ w.distances + (thinned threshold (point_at points.now) a e).measured) × (length kept.new ≡ notes_long) }
+        × (result.distances ≡ w.distances + (thinned threshold (point_at points.now) a e).measured) }
 {
     if e <= a {
         return w;
     }
     let at = w.points;
     let k = w.starts;
-    put_number(out_starts, k, at as u32);
-    let t = write_thinned(points, a, e, threshold, out_points, at, kept);
-    Progress {
-        points: t.points,
+    put(out_starts, k, at as u32);
+    write_thinned(points, a, e, threshold, out_points, at, kept);
+    Simplified {
+        points: at + kept.count,
         starts: k + 1,
-        distances: w.distances + t.distances,
+        distances: w.distances + kept.distances,
     }
 }
 
@@ -352,7 +301,7 @@ fn write_strokes(
     threshold: f64,
     out_points: &mut [f64],
     out_starts: &mut [u32],
-) -> Progress
+) -> Simplified
     requires { (length (joined (simplified (simplified_of threshold points.now starts.now))) ≤ most_points) × (length starts.now ≤ most_points)
         × (distances (simplified_of threshold points.now starts.now) ≤ 4294967296) × (good_starts (length points.now / 3) starts.now ≡ true)
         × (short_of (length points.now / 3) starts.now ≡ true) }
@@ -360,20 +309,22 @@ fn write_strokes(
         ≡ push_all put_points (out out_points.old out_starts.old (record { points = 0; starts = 0 })) (simplified (simplified_of threshold points.entry.now starts.now)))
         × (result.distances ≡ distances (simplified_of threshold points.entry.now starts.now)) }
 {
-    let mut kept = [0usize; NOTES];
-    let mut w = Progress {
+    let mut kept = Notes {
+        distances: 0,
+        count: 0,
+        places: [0; MOST_TO_SIMPLIFY],
+    };
+    let mut w = Simplified {
         points: 0,
         starts: 0,
         distances: 0,
     };
-    let mut i = 0;
-    while i < starts.len() {
+    for i in 0..starts.len() {
         let a = starts[i] as usize;
         let e = end_of(starts, i, points.len() / 3);
         w = write_stroke(
             points, a, e, threshold, out_points, out_starts, w, &mut kept,
         );
-        i += 1;
     }
     w
 }
@@ -382,24 +333,19 @@ fn write_strokes(
 fn short_stroke(a: usize, e: usize) -> bool
     ensures { result ≡ leb (e - a) most_to_simplify }
 {
-    if a < e {
-        return e - a <= MOST_TO_SIMPLIFY;
-    }
-    true
+    e.saturating_sub(a) <= MOST_TO_SIMPLIFY
 }
 
 // Whether none of the strokes of n points is.
 fn short_strokes(starts: &[u32], n: usize) -> bool
     ensures { result ≡ short_of n starts.now }
 {
-    let mut j = 0;
-    while j < starts.len() {
+    for j in 0..starts.len() {
         let a = starts[j] as usize;
         let e = end_of(starts, j, n);
         if !short_stroke(a, e) {
             return false;
         }
-        j += 1;
     }
     true
 }
@@ -428,29 +374,29 @@ fn simplify_verdict(
     threshold: f64,
     room: usize,
     start_room: usize,
-) -> Verdict
+) -> Result<(), Refusal>
     ensures { result ≡ verdict_of points.now starts.now threshold room start_room }
 {
     if !shaped(points, starts) {
-        return Verdict::Refused(Refusal::Shape);
+        return Err(Refusal::Shape);
     }
     let n = points.len() / 3;
     if !counted(n, starts.len()) {
-        return Verdict::Refused(Refusal::Count);
+        return Err(Refusal::Count);
     }
     if !short_strokes(starts, n) {
-        return Verdict::Refused(Refusal::Count);
+        return Err(Refusal::Count);
     }
     if !coordinates_good(points) {
-        return Verdict::Refused(Refusal::Number);
+        return Err(Refusal::Number);
     }
     if !threshold_good(threshold) {
-        return Verdict::Refused(Refusal::Number);
+        return Err(Refusal::Number);
     }
     if !fits(points.len(), starts.len(), room, start_room) {
-        return Verdict::Refused(Refusal::Room);
+        return Err(Refusal::Room);
     }
-    Verdict::Accepted
+    Ok(())
 }
 
 // Leaves the points out of every stroke that are no farther than the threshold.
@@ -460,26 +406,16 @@ pub fn simplify(
     threshold: f64,
     out_points: &mut [f64],
     out_starts: &mut [u32],
-) -> Simplified
+) -> Result<Simplified, Refusal>
     ensures { left (said result) out_points.new out_starts.new
         ≡ simplify_left points.now starts.now threshold out_points.old out_starts.old }
 {
-    let v = simplify_verdict(
+    simplify_verdict(
         points,
         starts,
         threshold,
         out_points.len(),
         out_starts.len(),
-    );
-    match v {
-        Verdict::Accepted => {
-            let w = write_strokes(points, starts, threshold, out_points, out_starts);
-            Simplified::Wrote {
-                points: w.points,
-                starts: w.starts,
-                distances: w.distances,
-            }
-        }
-        Verdict::Refused(r) => Simplified::Refused(r),
-    }
+    )?;
+    Ok(write_strokes(points, starts, threshold, out_points, out_starts))
 }

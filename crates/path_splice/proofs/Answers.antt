@@ -1,4 +1,5 @@
 -- What the call answers and leaves.
+use Rattle.std.specs.Prelude.{Ok}
 use mathlib.Core.Path.{◌≡◌, refl, sym, ap, ◌∙◌, subst}
 use mathlib.Core.Bool.{Bool, true, false}
 use mathlib.Core.List.{List, [], ◌∷◌, ◌++◌, append_assoc, map}
@@ -7,7 +8,6 @@ use native.Mathlib.Omega.{arith}
 use lib.ListN.{length, get_or, drop, length-append}
 use lib.Dec.{leb, eqb}
 use borrow.Author.Tests.{leb-true}
-use Rattle.refusal.specs.declared.Verdict.TheVariants.{Accepted}
 use Rattle.refusal.specs.Said.{Said, accepted}
 use Rattle.path.specs.Strokes.{good_starts, number_at, strokes_in}
 use Rattle.path.specs.Laid.{joined, starts_from}
@@ -41,7 +41,7 @@ within-limits np n h =
     (leb-true _ _ f.0, leb-true _ _ f.1)
 
 -- what an accepted call has passed
-pub granted : (ps ss : List ℕ) (w r s : ℕ) → verdict_of ps ss w r s ≡ Accepted
+pub granted : (ps ss : List ℕ) (w r s : ℕ) → verdict_of ps ss w r s ≡ (Ok tt)
     → (good_starts (length ps) ss ≡ true) × (length ps ≤ most_points) × (length ss ≤ most_strokes) × (8 * length ss ≤ w) × (length ps ≤ r) × (length ss ≤ s)
 unfolding verdict_of
 granted ps ss w r s h =

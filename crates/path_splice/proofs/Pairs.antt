@@ -23,7 +23,7 @@ use Rattle.path_splice_links.specs.Walk.{Woven}
 use Rattle.path_splice.proofs.Answers.{out-points, out-starts, laid_out, wrote}
 use Rattle.path_splice.specs.Call.{left}
 use Rattle.path_splice.specs.InnerText.{order_text, marks_of, ReadOut, Filled}
-use Rattle.path_splice.specs.InnerPairs.{pairs_of, Paired, PairsDrawn, pairs_fit, pairs_left}
+use Rattle.path_splice.specs.InnerPairs.{pairs_of, Paired, PairsDrawn, pairs_fit, strokes_fit, pairs_left}
 use Rattle.refusal.specs.Limits.{most_strokes, most_points}
 
 -- a, a + 2, .. (n of them)
@@ -240,20 +240,21 @@ module _ (s₀ s1 : List ℕ) (m : ℕ) (H : m ≤ length s₀) (z : length s1 �
       let k : length (take m s1) ≡ m = length-take-le m s1 (omega arith) in
       rw (f, k, length-replicate {A = ℕ} m 0, e)
 
-pub pairs_fit_lem : (n words room starts : ℕ) → pairs_fit n words room starts ≡ true → (8 * n ≤ words) × (n ≤ most_strokes) × (2 * n ≤ room) × (n ≤ starts)
-unfolding pairs_fit
-pairs_fit_lem n words room starts h =
-    let a = both (leb n most_strokes && leb (8 * n) words && leb (2 * n) room) (leb n starts) h in
-    let b = both (leb n most_strokes && leb (8 * n) words) (leb (2 * n) room) a.0 in
-    let d = both (leb n most_strokes) (leb (8 * n) words) b.0 in
+-- what room there is
+pub fit_all : (w p n words room starts : ℕ) → strokes_fit w p n words room starts ≡ true → (w * n ≤ words) × (n ≤ most_strokes) × (p * n ≤ room) × (n ≤ starts)
+unfolding strokes_fit
+fit_all w p n words room starts h =
+    let a = both (leb n most_strokes && leb (w * n) words && leb (p * n) room) (leb n starts) h in
+    let b = both (leb n most_strokes && leb (w * n) words) (leb (p * n) room) a.0 in
+    let d = both (leb n most_strokes) (leb (w * n) words) b.0 in
     (leb-true _ _ d.1, leb-true _ _ d.0, leb-true _ _ b.1, leb-true _ _ a.1)
 
 module _ (s op os : List ℕ) (n : ℕ) where
-  pub pairs_no : pairs_fit n (length s) (length op) (length os) ≡ false → left (accepted (0 ∷ 0 ∷ [])) s op os ≡ pairs_left s n op os
-  unfolding pairs_left
+  pub pairs_no : strokes_fit 8 2 n (length s) (length op) (length os) ≡ false → left (accepted (0 ∷ 0 ∷ [])) s op os ≡ pairs_left s n op os
+  unfolding pairs_left pairs_fit strokes_fit
   pairs_no h = rw h
 
-  pub pairs_yes : pairs_fit n (length s) (length op) (length os) ≡ true → (s' s1 op' os' : List ℕ) (p q : ℕ) → s' ≡ over s (replicate (8 * n) 0) → PairsDrawn s s1 n op os op' os' p q
+  pub pairs_yes : strokes_fit 8 2 n (length s) (length op) (length os) ≡ true → (s' s1 op' os' : List ℕ) (p q : ℕ) → s' ≡ over s (replicate (8 * n) 0) → PairsDrawn s s1 n op os op' os' p q
       → left (accepted (p ∷ q ∷ [])) s' op' os' ≡ pairs_left s n op os
-  unfolding pairs_left
+  unfolding pairs_left pairs_fit strokes_fit
   pairs_yes h s' s1 op' os' p q e D = rw h (wrote (splice 0 eqb (pairs_of (take (2 * n) s))) (over s (replicate (8 * n) 0)) s' op os op' os' p q e D.out)

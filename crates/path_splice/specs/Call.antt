@@ -1,17 +1,15 @@
 -- The call: when it is refused, what it answers, and what it leaves in what it was lent.
+use Rattle.std.specs.Prelude.{Ok}
 use Rattle.std.specs.Prelude.{◌&&◌, List, [], ◌∷◌, ℕ, ◌*◌, length, replicate, leb, eqb}
 use Rattle.refusal.specs.declared.Refusal.TheVariants.{Shape, Count, Scratch, Room}
-use Rattle.refusal.specs.declared.Verdict.{Verdict}
-use Rattle.refusal.specs.declared.Verdict.TheVariants.{Accepted}
+use Rattle.refusal.specs.Refusals.{Verdict}
 use Rattle.refusal.specs.Refusals.{unless}
-use Rattle.refusal.specs.Said.{Said, accepted, refused}
+use Rattle.refusal.specs.Said.{Said, accepted}
 use Rattle.refusal.specs.Outcome.{Outcome, leaves, outcome}
 use Rattle.path.specs.Strokes.{good_starts, strokes_in}
 use Rattle.path.specs.Laid.{over, joined, starts_from}
 use Rattle.path.specs.Tests.{counted_of}
 use Rattle.path_splice_rule.specs.Splice.{splice}
-use Rattle.path_splice.specs.declared.Spliced.{Spliced}
-use Rattle.path_splice.specs.declared.Spliced.TheVariants as spliced
 
 -- the lowest refusal that applies: a table of starts, the limits, 8 words of scratch a stroke, room for as many points and starts as the input
 unfoldable pub verdict_of : List ℕ → List ℕ → ℕ → ℕ → ℕ → Verdict
@@ -20,12 +18,7 @@ verdict_of ps ss words room starts =
     (unless (counted_of (length ps) (length ss)) Count
     (unless (leb (8 * length ss) words) Scratch
     (unless (leb (length ps) room && leb (length ss) starts) Room
-    Accepted)))
-
--- the answer's number and values: points and starts written
-abbrev pub said : Spliced → Said ℕ
-said (spliced.Wrote p q) = accepted (p ∷ q ∷ [])
-said (spliced.Refused r) = refused r
+    (Ok tt))))
 
 pub record Lent : Type 0 where
   pub scratch : List ℕ

@@ -14,6 +14,10 @@ pairs_of [] = []
 pairs_of (x ∷ []) = []
 pairs_of (x ∷ y ∷ s) = (x ∷ y ∷ []) ∷ pairs_of s
 
+-- n strokes are within the limit, w words a stroke in scratch, p numbers and a start a stroke in the output
+unfoldable pub strokes_fit : ℕ → ℕ → ℕ → ℕ → ℕ → ℕ → Bool
+strokes_fit w p n words room starts = leb n most_strokes && leb (w * n) words && leb (p * n) room && leb n starts
+
 -- n strokes are within the limit, 8 words a stroke in scratch, 2 points and a start a stroke in the output
 unfoldable pub pairs_fit : ℕ → ℕ → ℕ → ℕ → Bool
 pairs_fit n words room starts = leb n most_strokes && leb (8 * n) words && leb (2 * n) room && leb n starts

@@ -10,13 +10,6 @@ use lib.Seq.{get_or-set_same, get_or-set_other}
 use Rattle.path_splice_links.specs.Runs.{end_value, Run, Pair, Mirror, Ranked, Reach, Mirrored, Linked}
 use Rattle.order.proofs.Tests.{le-or}
 
-pub same_more : (vs s : List ℕ) (p q : ℕ) → ((z : ℕ) → p ≤ z → z < q → end_value vs s z ≡ end_value vs s p) → end_value vs s q ≡ end_value vs s p
-    → (z : ℕ) → p ≤ z → z < q + 1 → end_value vs s z ≡ end_value vs s p
-same_more vs s p q h e z a b = elim (ℕ_discrete z q) [ yes o ↦ ap (end_value vs s) o ∙ e | no o ↦ h z a (omega arith) ]
-
-pub same-one : (vs s : List ℕ) (p z : ℕ) → p ≤ z → z < p + 1 → end_value vs s z ≡ end_value vs s p
-same-one vs s p z a b = let o : z ≡ p = omega arith in ap (end_value vs s) o
-
 pub mirrored_none : (s ls : List ℕ) (p q : ℕ) → Mirrored s ls ls p q p
 mirrored_none s ls p q = record { size = refl; pairs = λ z a b. absurd (omega arith); rest = λ e h. refl }
 

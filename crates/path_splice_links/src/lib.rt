@@ -1,5 +1,7 @@
 // Links between the ends of strokes, and the walk along them, in words of scratch.
-// With n strokes there are the values of their ends, then the order, the links, and what is to do.
+// With n strokes there are the values of their ends, then the order, the links, and what is to do. The words and n stay two parameters: a
+// struct of both would hold a `&mut` and be made anew for each call, and one of the counts alone would leave as many clauses, that the words
+// are as long as it says.
 #![tactic(auto)]
 
 ghost use Rattle.std.specs.Prelude.{◌≡◌, not, ◌≢◌, ℕ, ◌+◌, ◌-◌, ◌*◌, ◌/◌, ◌<◌, ◌≤◌, length, get_or};
@@ -25,35 +27,24 @@ pub const TODO: usize = 6;
 
 pub const WORDS: usize = 7;
 
-// What an end is linked with: another end, or none.
-#[derive(Clone, Copy)]
-enum Link {
-    To(Endpoint),
-    Free,
-}
-
-// The link that a word says.
-fn link_in(word: u32) -> Link
+// The link that a word says: the end that an end is linked with, if it is linked.
+fn link_in(word: u32) -> Option<Endpoint>
     ensures { link_word result ≡ word }
 {
     if word == 0 {
-        return Link::Free;
+        return None;
     }
-    Link::To(Endpoint(word as usize - 1))
+    Some(Endpoint(word as usize - 1))
 }
 
 // The word that says a link.
-fn word_of(l: Link) -> u32
+fn word_of(l: Option<Endpoint>) -> u32
     requires { link_word l ≤ 2 * most_strokes }
     ensures { result ≡ link_word l }
 {
     match l {
-        Link::To(f) => {
-            return (f.0 + 1) as u32;
-        }
-        Link::Free => {
-            return 0;
-        }
+        Some(f) => (f.0 + 1) as u32,
+        None => 0,
     }
 }
 
@@ -62,17 +53,14 @@ fn live_ends(s: &mut [u32], n: usize) -> usize
     requires { (words_for n ≤ length s.old) × (n ≤ most_strokes) }
     ensures { Into s.old s.new (order_at n) (2 * n) (λ a. Lived (todo_in s.old n) (region s.old (order_at n) (2 * n)) a result) }
 {
-    let mut e: usize = 0;
     let mut k: usize = 0;
-    while e < 2 * n {
+    for e in 0..2 * n {
         let i = Endpoint(e).path_id();
         if s[TODO * n + i] == 0 {
-            e += 1;
             continue;
         }
         s[ORDER * n + k] = e as u32;
         k += 1;
-        e += 1;
     }
     k
 }
@@ -83,15 +71,13 @@ fn run_end(values: &[u32], s: &[u32], p: usize) -> usize
     ensures { Reach values.now s.now p result }
 {
     let v = word_at(values, s[p]);
-    let mut q = p + 1;
-    while q < s.len() {
+    for q in p + 1..s.len() {
         let w = word_at(values, s[q]);
         if w != v {
             return q;
         }
-        q += 1;
     }
-    q
+    s.len()
 }
 
 // Where the run of place p in the order ends.
@@ -105,14 +91,14 @@ fn reach(s: &[u32], n: usize, c: usize, p: usize) -> usize
 }
 
 // The link of e, whose mirror is f: none where both are of one stroke.
-fn mirror_link(e: Endpoint, f: Endpoint) -> Link
+fn mirror_link(e: Endpoint, f: Endpoint) -> Option<Endpoint>
     ensures pair { Pair e.0 f.0 (link_word result) }
     ensures result_bound { link_word result ≤ f.0 + 1 }
 {
     if e.path_id() == f.path_id() {
-        return Link::Free;
+        return None;
     }
-    Link::To(f)
+    Some(f)
 }
 
 // Links the ends of the run from p to q.
@@ -122,14 +108,12 @@ fn mirror_run(s: &mut [u32], n: usize, c: usize, p: usize, q: usize)
     requires by_index_2 { (x y : ℕ) → p ≤ x → x < y → y < q → get_or (region s.old (order_at n) c) x 0 ≢ get_or (region s.old (order_at n) c) y 0 }
     ensures { Into s.old s.new (links_at n) (2 * n) (λ ls. Mirrored (region s.old (order_at n) c) (links_in s.old n) ls p q q) }
 {
-    let mut x = p;
-    while x < q {
+    for x in p..q {
         let e = s[ORDER * n + x];
         let f = s[ORDER * n + (p + q - 1 - x)];
         let l = mirror_link(Endpoint(e as usize), Endpoint(f as usize));
         let i = LINKS * n + e as usize;
         s[i] = word_of(l);
-        x += 1;
     }
 }
 
@@ -139,6 +123,7 @@ fn link_runs(s: &mut [u32], n: usize, c: usize)
     requires ranked { Ranked (values_in s.old n) (region s.old (order_at n) c) (2 * n) }
     ensures { Into s.old s.new (links_at n) (2 * n) (λ ls. Linked (values_in s.old n) (region s.old (order_at n) c) (links_in s.old n) ls c) }
 {
+    // a `while`, as it steps from run to run
     let mut p: usize = 0;
     while p < c {
         let q = reach(s, n, c, p);
@@ -162,7 +147,7 @@ fn link_ends(s: &mut [u32], n: usize)
 }
 
 // Where the walk goes on to from the stroke entered at e: the end linked with its other end, unless that stroke is drawn.
-fn onward(links: &[u32], todo: &[u32], e: Endpoint) -> Link
+fn onward(links: &[u32], todo: &[u32], e: Endpoint) -> Option<Endpoint>
     requires links_len { length links.now ≡ 2 * length todo.now }
     requires links_len_bound { length links.now ≤ 2 * most_strokes }
     requires e_in_bounds { e.0 < length links.now }
@@ -171,22 +156,16 @@ fn onward(links: &[u32], todo: &[u32], e: Endpoint) -> Link
 {
     let o = e.opposite();
     let at = o.0;
-    match link_in(links[at]) {
-        Link::Free => {
-            return Link::Free;
-        }
-        Link::To(f) => {
-            let i = f.path_id();
-            if todo[i] == 0 {
-                return Link::Free;
-            }
-            return Link::To(f);
-        }
+    let f = link_in(links[at])?;
+    let i = f.path_id();
+    if todo[i] == 0 {
+        return None;
     }
+    Some(f)
 }
 
 // The same, in the strokes' words.
-fn go_on(s: &[u32], n: usize, e: Endpoint) -> Link
+fn go_on(s: &[u32], n: usize, e: Endpoint) -> Option<Endpoint>
     requires n_in_bounds { (words_for n ≤ length s.now) × (n ≤ most_strokes) × (e.0 < 2 * n) }
     requires within { Within (links_in s.now n) }
     ensures { link_word result ≡ onward_of (todo_in s.now n) (link_in (links_in s.now n) (opposite_of e.0)) }
@@ -207,6 +186,7 @@ fn run(s: &mut [u32], n: usize, at: usize, start: Endpoint) -> usize
     let mut e = start;
     let mut k = at;
     let mut f: usize = 1;
+    // a `loop`, as it goes from link to link
     loop {
         let i = e.path_id();
         s[TODO * n + i] = 0;
@@ -214,12 +194,8 @@ fn run(s: &mut [u32], n: usize, at: usize, start: Endpoint) -> usize
         k += 1;
         f = 0;
         match go_on(s, n, e) {
-            Link::To(g) => {
-                e = g;
-            }
-            Link::Free => {
-                return k;
-            }
+            Some(g) => e = g,
+            None => return k,
         }
     }
 }
@@ -230,29 +206,26 @@ fn is_connected(s: &[u32], n: usize, e: Endpoint) -> bool
     ensures { result ≡ not (is_free (link_in (links_in s.now n) e.0)) }
 {
     let at = e.0;
-    match link_in(s[LINKS * n + at]) {
-        Link::To(_) => true,
-        Link::Free => false,
-    }
+    link_in(s[LINKS * n + at]).is_some()
 }
 
 // Where stroke i is entered: a free end, the first before the last, or none; or, of rings, the last.
-fn enter(s: &[u32], n: usize, i: usize, rings: bool) -> Link
+fn enter(s: &[u32], n: usize, i: usize, rings: bool) -> Option<Endpoint>
     requires { (words_for n ≤ length s.now) × (n ≤ most_strokes) × (i < n) }
     ensures { link_word result ≡ entry (link_in (links_in s.now n)) rings i }
 {
     let last = Endpoint::new(i as u32, true);
     if rings {
-        return Link::To(last);
+        return Some(last);
     }
     let first = Endpoint::new(i as u32, false);
     if !is_connected(s, n, first) {
-        return Link::To(first);
+        return Some(first);
     }
     if !is_connected(s, n, last) {
-        return Link::To(last);
+        return Some(last);
     }
-    Link::Free
+    None
 }
 
 // Walks the chain that begins at stroke i, if it is still to do and one begins there.
@@ -266,12 +239,8 @@ fn visit(s: &mut [u32], n: usize, at: usize, i: usize, rings: bool) -> usize
         return at;
     }
     match enter(s, n, i, rings) {
-        Link::To(e) => {
-            return run(s, n, at, e);
-        }
-        Link::Free => {
-            return at;
-        }
+        Some(e) => run(s, n, at, e),
+        None => at,
     }
 }
 
@@ -281,11 +250,9 @@ fn walk_pass(s: &mut [u32], n: usize, at: usize, rings: bool) -> usize
     ensures { Into2 s.old s.new (todo_at n) n (order_at n) n
         (λ t o. Drew (pass_of (entry (link_in (links_in s.old n)) rings) (link_in (links_in s.old n)) n n 0 (todo_in s.old n)) (region s.old (order_at n) n) at t o result) }
 {
-    let mut i: usize = 0;
     let mut k = at;
-    while i < n {
+    for i in 0..n {
         k = visit(s, n, k, i, rings);
-        i += 1;
     }
     k
 }

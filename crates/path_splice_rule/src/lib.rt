@@ -5,7 +5,7 @@ ghost use Rattle.std.specs.Prelude.{◌≡◌, ◌%◌, eqb};
 ghost use Rattle.path_splice_rule.specs.Splice.{end_on, stroke_of, side_of, opposite as opposite_of};
 
 // An end of a stroke, by its number: 2 i is the first of stroke i, 2 i + 1 its last.
-#[derive(Clone, Copy)]
+#[derive(Clone, Copy, Debug, PartialEq, Eq)]
 pub struct Endpoint(pub usize);
 
 impl Endpoint {

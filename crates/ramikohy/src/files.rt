@@ -6,9 +6,8 @@ ghost use Rattle.mesh_weld.specs.Read.{read_left};
 ghost use Rattle.stl_write.specs.Call.{lent as write_lent, write_left};
 ghost use Rattle.ramikohy.specs.Calls.{called, called_by};
 
-use mesh_weld::Welded;
 use mesh_weld::read::read_stl;
-use stl_write::{StlWritten, write_stl};
+use stl_write::write_stl;
 
 // Reads a file into a welded mesh.
 #[unsafe(no_mangle)]
@@ -25,15 +24,12 @@ pub extern "C" fn ramikohy_read_stl(
         (vertex_count.old ∷ index_count.old ∷ []) }
 {
     match read_stl(bytes, scratch, vertices, indices) {
-        Welded::Wrote {
-            vertices: v,
-            indices: i,
-        } => {
-            *vertex_count = v;
-            *index_count = i;
+        Ok(answer) => {
+            *vertex_count = answer.vertices;
+            *index_count = answer.indices;
             0
         }
-        Welded::Refused(why) => refusal::number(why),
+        Err(why) => refusal::number(why),
     }
 }
 
@@ -49,10 +45,10 @@ pub extern "C" fn ramikohy_write_stl(
         ≡ called_by (write_left vertices.now indices.now out.old) (byte_count.old ∷ []) }
 {
     match write_stl(vertices, indices, out) {
-        StlWritten::Wrote { bytes: n } => {
-            *byte_count = n;
+        Ok(bytes) => {
+            *byte_count = bytes;
             0
         }
-        StlWritten::Refused(why) => refusal::number(why),
+        Err(why) => refusal::number(why),
     }
 }

@@ -13,9 +13,8 @@ ghost use Rattle.vector.specs.Abs.{abs_of};
 ghost use Rattle.ramikohy.specs.Points.{point_of, matrix_of};
 ghost use Rattle.ramikohy.specs.Status.{valued, valued_by, valued_by_unit};
 
+use vector::Vector;
 use vector::matrix::Matrix;
-use vector::number::{Root, Whole};
-use vector::{Unit, Vector};
 
 pub mod files;
 pub mod meshes;
@@ -71,11 +70,11 @@ pub extern "C" fn ramikohy_floor(x: f64, whole: &mut i64) -> u32
     ensures { valued result whole.new ≡ valued_by (floor_of x) whole.old }
 {
     match vector::number::floor(x) {
-        Whole::Of(z) => {
+        Ok(z) => {
             *whole = z;
             0
         }
-        Whole::Refused(why) => refusal::number(why),
+        Err(why) => refusal::number(why),
     }
 }
 
@@ -85,11 +84,11 @@ pub extern "C" fn ramikohy_sqrt(x: f64, root: &mut f64) -> u32
     ensures { valued result root.new ≡ valued_by (root_of x) root.old }
 {
     match vector::number::sqrt(x) {
-        Root::Of(y) => {
+        Ok(y) => {
             *root = y;
             0
         }
-        Root::Refused(why) => refusal::number(why),
+        Err(why) => refusal::number(why),
     }
 }
 
@@ -155,11 +154,11 @@ pub extern "C" fn ramikohy_normalize(a: &[f64; 3], out: &mut [f64; 3]) -> u32
     ensures { valued result (point_of out.new) ≡ valued_by_unit (unit_of (point_of a.now)) (point_of out.old) }
 {
     match point(a).normalize() {
-        Unit::Of(q) => {
+        Some(q) => {
             put(q, out);
             0
         }
-        Unit::Nothing => NONE,
+        None => NONE,
     }
 }
 

@@ -12,11 +12,8 @@ ghost use Rattle.ramikohy.specs.Points.{point_of};
 ghost use Rattle.ramikohy.specs.Calls.{called, called_by, faced, faced_by};
 
 use crate::point;
-use mesh_contour::Contoured;
-use mesh_draw::Drawing;
-use mesh_section::{Plane, Sectioned};
-use mesh_weld::Welded;
-use refusal::{Carried, Refusal};
+use mesh_section::Plane;
+use refusal::Refusal;
 
 // Welds the corners of faces.
 #[unsafe(no_mangle)]
@@ -33,15 +30,12 @@ pub extern "C" fn ramikohy_weld(
         (vertex_count.old ∷ index_count.old ∷ []) }
 {
     match mesh_weld::weld(coords, scratch, vertices, indices) {
-        Welded::Wrote {
-            vertices: v,
-            indices: i,
-        } => {
-            *vertex_count = v;
-            *index_count = i;
+        Ok(answer) => {
+            *vertex_count = answer.vertices;
+            *index_count = answer.indices;
             0
         }
-        Welded::Refused(why) => refusal::number(why),
+        Err(why) => refusal::number(why),
     }
 }
 
@@ -68,15 +62,12 @@ pub extern "C" fn ramikohy_section(
         normal: point(plane_normal),
     };
     match mesh_section::section(vertices, indices, plane, tolerance, out_points, out_starts) {
-        Sectioned::Wrote {
-            points: p,
-            starts: s,
-        } => {
-            *point_count = p;
-            *start_count = s;
+        Ok(answer) => {
+            *point_count = answer.points;
+            *start_count = answer.starts;
             0
         }
-        Sectioned::Refused(why) => refusal::number(why),
+        Err(why) => refusal::number(why),
     }
 }
 
@@ -108,15 +99,12 @@ pub extern "C" fn ramikohy_contour(
     match mesh_contour::contour(
         vertices, indices, plane, tolerance, scratch, numbers, out_points, out_starts,
     ) {
-        Contoured::Wrote {
-            points: p,
-            starts: s,
-        } => {
-            *point_count = p;
-            *start_count = s;
+        Ok(answer) => {
+            *point_count = answer.points;
+            *start_count = answer.starts;
             0
         }
-        Contoured::Refused(why) => refusal::number(why),
+        Err(why) => refusal::number(why),
     }
 }
 
@@ -125,11 +113,11 @@ fn told(why: Refusal, face: &mut u32) -> u32
     ensures { (result ≡ number_of why) × (face.new ≡ get_or (carried_by why) 0 face.old) }
 {
     match refusal::carried_by(why) {
-        Carried::Face(f) => {
+        Some(f) => {
             *face = f;
             refusal::number(why)
         }
-        Carried::Nothing => refusal::number(why),
+        None => refusal::number(why),
     }
 }
 
@@ -162,14 +150,11 @@ pub extern "C" fn ramikohy_draw(
         vertices, indices, flips, mode, cos_theta, e, tolerance, scratch, seen, out_points,
         out_starts,
     ) {
-        Drawing::Wrote {
-            points: p,
-            starts: s,
-        } => {
-            *point_count = p;
-            *start_count = s;
+        Ok(answer) => {
+            *point_count = answer.points;
+            *start_count = answer.starts;
             0
         }
-        Drawing::Refused(why) => told(why, face),
+        Err(why) => told(why, face),
     }
 }

@@ -5,9 +5,6 @@ ghost use Rattle.sheet_write.specs.Call.{lent as write_lent, write_left};
 ghost use Rattle.sheet_read.specs.Call.{lent as read_lent, read_left};
 ghost use Rattle.ramikohy.specs.Calls.{called, called_by};
 
-use sheet_read::SheetRead;
-use sheet_write::SheetWritten;
-
 // Writes strokes of vertex numbers as a sheet.
 #[unsafe(no_mangle)]
 pub extern "C" fn ramikohy_write_sheet(
@@ -22,11 +19,11 @@ pub extern "C" fn ramikohy_write_sheet(
         ≡ called_by (write_left mode vertices numbers.now starts.now out.old) (byte_count.old ∷ []) }
 {
     match sheet_write::write_sheet(mode, vertices, numbers, starts, out) {
-        SheetWritten::Wrote { bytes: n } => {
-            *byte_count = n;
+        Ok(bytes) => {
+            *byte_count = bytes;
             0
         }
-        SheetWritten::Refused(why) => refusal::number(why),
+        Err(why) => refusal::number(why),
     }
 }
 
@@ -46,18 +43,13 @@ pub extern "C" fn ramikohy_read_sheet(
         (point_count.old ∷ start_count.old ∷ mode.old ∷ vertices.old ∷ []) }
 {
     match sheet_read::read_sheet(bytes, out_numbers, out_starts) {
-        SheetRead::Wrote {
-            mode: m,
-            vertices: v,
-            points: p,
-            starts: s,
-        } => {
-            *point_count = p;
-            *start_count = s;
-            *mode = m;
-            *vertices = v;
+        Ok(answer) => {
+            *point_count = answer.points;
+            *start_count = answer.starts;
+            *mode = answer.mode;
+            *vertices = answer.vertices;
             0
         }
-        SheetRead::Refused(why) => refusal::number(why),
+        Err(why) => refusal::number(why),
     }
 }

@@ -9,11 +9,6 @@ ghost use Rattle.path_splice.specs.Call.{lent as splice_lent, splice_left};
 ghost use Rattle.ramikohy.specs.Points.{matrix_of};
 ghost use Rattle.ramikohy.specs.Calls.{called, called_by};
 
-use path_adaptive::Adapted;
-use path_chop::Chopped;
-use path_simplify::Simplified;
-use path_splice::Spliced;
-
 // Cuts strokes into steps.
 #[unsafe(no_mangle)]
 pub extern "C" fn ramikohy_chop(
@@ -30,15 +25,12 @@ pub extern "C" fn ramikohy_chop(
         (point_count.old ∷ start_count.old ∷ []) }
 {
     match path_chop::chop(points, starts, step, out_points, out_starts) {
-        Chopped::Wrote {
-            points: p,
-            starts: s,
-        } => {
-            *point_count = p;
-            *start_count = s;
+        Ok(answer) => {
+            *point_count = answer.points;
+            *start_count = answer.starts;
             0
         }
-        Chopped::Refused(why) => refusal::number(why),
+        Err(why) => refusal::number(why),
     }
 }
 
@@ -58,15 +50,12 @@ pub extern "C" fn ramikohy_splice(
         (point_count.old ∷ start_count.old ∷ []) }
 {
     match path_splice::splice(points, starts, scratch, out_points, out_starts) {
-        Spliced::Wrote {
-            points: p,
-            starts: s,
-        } => {
-            *point_count = p;
-            *start_count = s;
+        Ok(answer) => {
+            *point_count = answer.points;
+            *start_count = answer.starts;
             0
         }
-        Spliced::Refused(why) => refusal::number(why),
+        Err(why) => refusal::number(why),
     }
 }
 
@@ -101,17 +90,13 @@ pub extern "C" fn ramikohy_chop_adaptive(
         out_points,
         out_starts,
     ) {
-        Adapted::Wrote {
-            points: p,
-            starts: s,
-            halvings: h,
-        } => {
-            *point_count = p;
-            *start_count = s;
-            *halving_count = h;
+        Ok(answer) => {
+            *point_count = answer.points;
+            *start_count = answer.starts;
+            *halving_count = answer.halvings;
             0
         }
-        Adapted::Refused(why) => refusal::number(why),
+        Err(why) => refusal::number(why),
     }
 }
 
@@ -132,16 +117,12 @@ pub extern "C" fn ramikohy_simplify(
         (point_count.old ∷ start_count.old ∷ distance_count.old ∷ []) }
 {
     match path_simplify::simplify(points, starts, threshold, out_points, out_starts) {
-        Simplified::Wrote {
-            points: p,
-            starts: s,
-            distances: d,
-        } => {
-            *point_count = p;
-            *start_count = s;
-            *distance_count = d;
+        Ok(answer) => {
+            *point_count = answer.points;
+            *start_count = answer.starts;
+            *distance_count = answer.distances;
             0
         }
-        Simplified::Refused(why) => refusal::number(why),
+        Err(why) => refusal::number(why),
     }
 }

@@ -8,12 +8,9 @@ use lib.ListN.{get_or}
 use lib.Dec.{eqb}
 use Rattle.refusal.specs.declared.Refusal.{Refusal}
 use Rattle.refusal.specs.declared.Refusal.TheVariants.{Shape, Count, Vertex, Number, Scratch, Room, Alike, Deep, Sheet, NoLength, Stl}
-use Rattle.refusal.specs.declared.Carried.{Carried}
-use Rattle.refusal.specs.declared.Carried.TheVariants.{Face, Nothing}
-use Rattle.refusal.specs.declared.Verdict.{Verdict}
-use Rattle.refusal.specs.declared.Verdict.TheVariants.{Accepted, Refused}
-use Rattle.refusal.specs.Refusals.{number_of, carried_by}
-use Rattle.refusal.specs.Said.{accepted, refused, carried_said, verdict_said}
+use Rattle.std.specs.Prelude.{Option, Some, None, Result, Ok, Err}
+use Rattle.refusal.specs.Refusals.{number_of, carried_by, Verdict}
+use Rattle.refusal.specs.Said.{accepted, refused, said_by, value_said, option_said, verdict_said}
 use Rattle.refusal.specs.One.{One}
 
 -- a contract of the form `r ≡ d`
@@ -64,19 +61,28 @@ never_both vs r e = true≢false (ap (λ s. eqb s.number 0) e ∙ not_zero r)
 pub same-values : {A : Type 0} {vs ws : List A} → accepted vs ≡ accepted ws → vs ≡ ws
 same-values e = ap (λ s. s.values) e
 
--- carried: what is found tells what it is
-one-carried : (c d : Carried) → carried_said c ≡ carried_said d → c ≡ d
-one-carried (Face f) (Face g) e = let h = same-values e in cc
-one-carried (Face f) Nothing e = let h = same-values e in let z : ◌≡◌ {A = ℕ} 0 1 = cc in absurd (omega arith)
-one-carried Nothing (Face g) e = let h = same-values e in let z : ◌≡◌ {A = ℕ} 0 1 = cc in absurd (omega arith)
-one-carried Nothing Nothing e = refl
+-- an answer that is read by its values is told by what is said of it, where the values tell it
+module _ {A B : Type 0} (values : A → List B) (told : (a b : A) → values a ≡ values b → a ≡ b) where
+  pub one-said : (x y : Result A Refusal) → said_by values x ≡ said_by values y → x ≡ y
+  one-said (Ok a) (Ok b) e = ap Ok (told a b (same-values e))
+  one-said (Ok a) (Err t) e = absurd (never_both _ t e)
+  one-said (Err r) (Ok b) e = absurd (never_both _ r (sym e))
+  one-said (Err r) (Err t) e = ap Err (one-refusal r t e)
 
-pub one-carrying : (r : Refusal) → One Carried (λ c. carried_said c ≡ accepted (carried_by r))
-one-carrying r = one-read carried_said one-carried (accepted (carried_by r))
+-- so is an answer of one value
+pub one-value : {A : Type 0} (x y : Result A Refusal) → value_said x ≡ value_said y → x ≡ y
+one-value {A} = one-said (λ v. v ∷ []) (λ a b e. cc)
 
--- a verdict is told by what is said of it
+-- a value that may be none
+pub one-option : {A : Type 0} (c d : Option A) → option_said c ≡ option_said d → c ≡ d
+one-option (Some f) (Some g) e = let h = same-values e in cc
+one-option (Some f) None e = let h = same-values e in let z : ◌≡◌ {A = ℕ} 0 1 = cc in absurd (omega arith)
+one-option None (Some g) e = let h = same-values e in let z : ◌≡◌ {A = ℕ} 0 1 = cc in absurd (omega arith)
+one-option None None e = refl
+
+pub one-carrying : (r : Refusal) → One (Option ℕ) (λ c. option_said c ≡ accepted (carried_by r))
+one-carrying r = one-read option_said one-option (accepted (carried_by r))
+
+-- a verdict
 pub one-verdict : (v w : Verdict) → verdict_said v ≡ verdict_said w → v ≡ w
-one-verdict Accepted Accepted e = refl
-one-verdict Accepted (Refused r) e = absurd (never_both [] r e)
-one-verdict (Refused r) Accepted e = absurd (never_both [] r (sym e))
-one-verdict (Refused r) (Refused t) e = ap Refused (one-refusal r t e)
+one-verdict v w e = one-said (λ _. []) (λ a b h. refl) v w e

@@ -1,7 +1,6 @@
 -- What a call leaves: its answer, and all that was lent to it. A refusal changes nothing: said here, once for all calls.
-use Rattle.std.specs.Prelude.{ℕ}
-use Rattle.refusal.specs.declared.Verdict.{Verdict}
-use Rattle.refusal.specs.declared.Verdict.TheVariants.{Accepted, Refused}
+use Rattle.std.specs.Prelude.{ℕ, Ok, Err}
+use Rattle.refusal.specs.Refusals.{Verdict}
 use Rattle.refusal.specs.Said.{Said, refused}
 
 pub record Outcome (L : Type 0) : Type 0 where
@@ -14,5 +13,5 @@ leaves a l = record { answer = a; lent = l }
 -- by the verdict: what the work leaves, or the refusal and everything as it was
 -- A refusal that is found late, in the work, is part of `done`, which has an answer of its own.
 unfoldable pub outcome : {L : Type 0} → Verdict → L → Outcome L → Outcome L
-outcome Accepted old done = done
-outcome (Refused r) old done = leaves (refused r) old
+outcome (Ok _) old done = done
+outcome (Err r) old done = leaves (refused r) old

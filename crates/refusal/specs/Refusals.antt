@@ -1,11 +1,9 @@
 -- The table of refusals: each number is given exactly when its line says, and the lowest that applies, but: between the two that carry a
 -- face the lowest face at fault decides; in `chop_adaptive` 6 and 8 go to whichever the walk meets first; reading a sheet tests 9 before 6,
 -- and reading a file 11 before all others.
-use Rattle.std.specs.Prelude.{Bool, true, false, List, [], ◌∷◌, ℕ}
+use Rattle.std.specs.Prelude.{Bool, true, false, List, [], ◌∷◌, ℕ, Result, Err}
 use Rattle.refusal.specs.declared.Refusal.{Refusal}
 use Rattle.refusal.specs.declared.Refusal.TheVariants.{Shape, Count, Vertex, Number, Scratch, Room, Alike, Deep, Sheet, NoLength, Stl}
-use Rattle.refusal.specs.declared.Verdict.{Verdict}
-use Rattle.refusal.specs.declared.Verdict.TheVariants.{Refused}
 
 -- a face with two corners whose coordinates compare equal; one with three different corners whose normal has computed length 0
 abbrev pub alike_number : ℕ
@@ -41,7 +39,11 @@ carried_by Sheet = []
 carried_by (NoLength face) = face ∷ []
 carried_by Stl = []
 
+-- what the tests before a call's work come to: no value, or the refusal
+abbrev pub Verdict : Type 0
+Verdict = Result (Unit {0}) Refusal
+
 -- a test that must hold, and the refusal where it does not, before the tests that follow
 unfoldable pub unless : Bool → Refusal → Verdict → Verdict
 unless true r next = next
-unless false r next = Refused r
+unless false r next = Err r

@@ -1,11 +1,7 @@
 -- An answer as the paper reads it: a number, 0 where the call was accepted, the values of an accepted call, and what a refusal carries.
-use Rattle.std.specs.Prelude.{List, [], ◌∷◌, ℕ}
+use Rattle.std.specs.Prelude.{List, [], ◌∷◌, ℕ, Option, Some, None, Result, Ok, Err}
 use Rattle.refusal.specs.declared.Refusal.{Refusal}
-use Rattle.refusal.specs.declared.Carried.{Carried}
-use Rattle.refusal.specs.declared.Carried.TheVariants.{Face, Nothing}
-use Rattle.refusal.specs.declared.Verdict.{Verdict}
-use Rattle.refusal.specs.declared.Verdict.TheVariants.{Accepted, Refused}
-use Rattle.refusal.specs.Refusals.{number_of, carried_by}
+use Rattle.refusal.specs.Refusals.{number_of, carried_by, Verdict}
 
 pub record Said (A : Type 0) : Type 0 where
   pub number : ℕ
@@ -22,12 +18,20 @@ refused r = record { number = number_of r; values = []; carried = carried_by r }
 abbrev pub numbered : {A : Type 0} → ℕ → Said A
 numbered n = record { number = n; values = []; carried = [] }
 
+-- an answer whose values are read by `values`, or the refusal
+abbrev pub said_by : {A B : Type 0} → (A → List B) → Result A Refusal → Said B
+said_by values (Ok a) = accepted (values a)
+said_by values (Err r) = refused r
+
+-- an answer of one value, or the refusal
+abbrev pub value_said : {A : Type 0} → Result A Refusal → Said A
+value_said r = said_by (λ v. v ∷ []) r
+
+-- a value that may be none, which is no refusal
+abbrev pub option_said : {A : Type 0} → Option A → Said A
+option_said (Some v) = accepted (v ∷ [])
+option_said None = accepted []
+
 -- a verdict: no value where all tests are passed
 abbrev pub verdict_said : Verdict → Said ℕ
-verdict_said Accepted = accepted []
-verdict_said (Refused r) = refused r
-
--- what was found to be carried: a face, or no value
-abbrev pub carried_said : Carried → Said ℕ
-carried_said (Face face) = accepted (face ∷ [])
-carried_said Nothing = accepted []
+verdict_said v = said_by (λ _. []) v

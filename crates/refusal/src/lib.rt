@@ -3,7 +3,7 @@
 
 ghost use Rattle.std.specs.Prelude.{◌≡◌};
 ghost use Rattle.refusal.specs.Refusals.{number_of, carried_by};
-ghost use Rattle.refusal.specs.Said.{accepted, carried_said};
+ghost use Rattle.refusal.specs.Said.{accepted, option_said};
 
 // The most of each that a call takes.
 pub const MOST_FACES: usize = 65536;
@@ -16,8 +16,8 @@ pub const MOST_POINTS: usize = 1048576;
 
 pub const MOST_TO_SIMPLIFY: usize = 4096;
 
-// The refusals, in the order of their numbers. Two of them carry the face at fault.
-#[derive(Clone, Copy)]
+// The refusals, in the order of their numbers: the error of every call that can refuse. Two of them carry the face at fault.
+#[derive(Clone, Copy, Debug, PartialEq, Eq)]
 pub enum Refusal {
     Shape,
     Count,
@@ -32,14 +32,7 @@ pub enum Refusal {
     Stl,
 }
 
-// What the tests before a call's work come to.
-#[derive(Clone, Copy)]
-pub enum Verdict {
-    Accepted,
-    Refused(Refusal),
-}
-
-// The number of a refusal, as the C functions answer it.
+// The number of a refusal, as the C functions answer it; everywhere else a refusal is the enum.
 pub fn number(r: Refusal) -> u32
     ensures { result ≡ number_of r }
 {
@@ -58,28 +51,21 @@ pub fn number(r: Refusal) -> u32
     }
 }
 
-// What a refusal carries beside its number.
-#[derive(Clone, Copy)]
-pub enum Carried {
-    Face(u32),
-    Nothing,
-}
-
 // The face that a refusal carries, if it carries one.
-pub fn carried_by(r: Refusal) -> Carried
-    ensures { carried_said result ≡ accepted (carried_by r) }
+pub fn carried_by(r: Refusal) -> Option<u32>
+    ensures { option_said result ≡ accepted (carried_by r) }
 {
     match r {
-        Refusal::Shape => Carried::Nothing,
-        Refusal::Count => Carried::Nothing,
-        Refusal::Vertex => Carried::Nothing,
-        Refusal::Number => Carried::Nothing,
-        Refusal::Scratch => Carried::Nothing,
-        Refusal::Room => Carried::Nothing,
-        Refusal::Alike(face) => Carried::Face(face),
-        Refusal::Deep => Carried::Nothing,
-        Refusal::Sheet => Carried::Nothing,
-        Refusal::NoLength(face) => Carried::Face(face),
-        Refusal::Stl => Carried::Nothing,
+        Refusal::Shape => None,
+        Refusal::Count => None,
+        Refusal::Vertex => None,
+        Refusal::Number => None,
+        Refusal::Scratch => None,
+        Refusal::Room => None,
+        Refusal::Alike(face) => Some(face),
+        Refusal::Deep => None,
+        Refusal::Sheet => None,
+        Refusal::NoLength(face) => Some(face),
+        Refusal::Stl => None,
     }
 }

@@ -1,9 +1,9 @@
 -- What the proofs of the functions share.
-use Rattle.std.proofs.Common.{◌≡◌, ℕ, zero, suc, ◌+◌, ◌<◌, ◌≤◌, Bool, true, false, cond, not, ◌&&◌, T, ltb, List, set, sym, refl, ap, ◌∙◌, add-one, arith, ltb-false, ltb-true, le-ltb, lt-ltb}
+use Rattle.std.proofs.Common.{◌≡◌, ℕ, ◌+◌, ◌<◌, ◌≤◌, Bool, true, false, cond, not, ◌&&◌, T, ltb, List, set, length, drop, get_or, sym, refl, ap, ◌∙◌, add-one, arith, le-ltb, lt-ltb}
+use Rattle.std.proofs.lemmas.List.{drop_all, drop_more}
 use lib.Ieee.{Float, nan, inf, fin, binary64, eq, is_nan, of_bits, nan_bits}
 use lib.Ieee.Bits.{nan_bits_is}
-use Rattle.replay_rows.specs.Lists.{filled, each}
-use Rattle.replay_rows.specs.Rows.{fits_in, bumped}
+use Rattle.replay_rows.specs.Lists.{filled, held}
 
 -- a choice by a comparison
 pub yes : {A : Type 0} (m n : ℕ) (x y : A) → m < n → x ≡ cond (ltb m n) x y
@@ -33,11 +33,6 @@ both : (a b : Bool) → (a && b) ≡ true → (a ≡ true) × (b ≡ true)
 both true b e = (refl, e)
 both false b e = let z : ◌≡◌ {A = ℕ} 0 1 = cc in absurd (omega arith)
 
--- a digit that fits
-pub fits_both : (d w : ℕ) → fits_in d w ≡ true → (d < 16) × (w < 248)
-unfolding fits_in
-fits_both d w e = let h = both (ltb d 16) (ltb w 248) e in (ltb-true d 16 h.0, ltb-true w 248 h.1)
-
 -- one more element is set
 fill_more : {A : Type 0} (f : ℕ → A) (s : List A) (i : ℕ) → set (filled f s i) i (f i) ≡ filled f s (i + 1)
 unfolding filled
@@ -53,33 +48,24 @@ and_false : (b : Bool) → (b && false) ≡ false
 and_false true = refl
 and_false false = refl
 
--- one more place passes
-pub each_more : (ok : ℕ → Bool) (i : ℕ) → each ok i ≡ true → ok i ≡ true → each ok (i + 1) ≡ true
-unfolding each
-each_more ok i e h = rw (add-one i, e, h)
+-- from place i of a list on, the element there and then the rest
+pub held-at : {A : Type 0} (is : A → ℕ → Bool) (want : ℕ → ℕ) (xs : List A) (i : ℕ) (x : A) → i < length xs → x ≡ get_or xs i x
+    → held is want i (drop i xs) ≡ (is x (want i) && held is want (i + 1) (drop (i + 1) xs))
+unfolding held
+held-at is want xs i x h e = rw (drop_more xs i x h, ← e)
 
-each_step : (ok : ℕ → Bool) (n i : ℕ) (b : Bool) → ltb i n ≡ b → i < suc n → ok i ≡ false → (i < n → each ok n ≡ false) → (each ok n && ok n) ≡ false
-each_step ok n i true l h e rec = rw (rec (ltb-true i n l))
-each_step ok n i false l h e rec =
-    let s : n ≡ i = omega (arith, ltb-false i n l) in
-    ap (λ (j : ℕ). each ok n && ok j) s ∙ rw e (and_false (each ok n))
+-- the element there is what is wanted, or is not: w is the word that was asked for, r what the test of the element said
+module _ {A : Type 0} (is : A → ℕ → Bool) (want : ℕ → ℕ) (xs : List A) (i w : ℕ) (x : A) (r all : Bool) (h : i < length xs) (at : x ≡ get_or xs i x)
+    (word : w ≡ want i) (said : r ≡ is x w) (so_far : held is want i (drop i xs) ≡ all) where
+  here : is x (want i) ≡ r
+  here = sym (said ∙ ap (is x) word)
 
--- a place that does not pass
-pub each-stops : (ok : ℕ → Bool) (n i : ℕ) → i < n → ok i ≡ false → each ok n ≡ false
-unfolding each
-each-stops ok zero i h e = absurd (omega arith)
-each-stops ok (suc n) i h e = each_step ok n i (ltb i n) refl h e (λ g. each-stops ok n i g e)
+  pub held-no : r ≡ false → false ≡ all
+  held-no e = sym (held-at is want xs i x h at ∙ ap (λ b. b && held is want (i + 1) (drop (i + 1) xs)) (here ∙ e)) ∙ so_far
 
-pub each-end : (ok : ℕ → Bool) (i n : ℕ) → each ok i ≡ true → i ≡ n → true ≡ each ok n
-each-end ok i n e h = sym e ∙ ap (each ok) h
+  pub held-yes : r ≡ true → held is want (i + 1) (drop (i + 1) xs) ≡ all
+  held-yes e = sym (held-at is want xs i x h at ∙ ap (λ b. b && held is want (i + 1) (drop (i + 1) xs)) (here ∙ e)) ∙ so_far
 
--- what the test of a word tells
-pub told-no : (same : ℕ → Bool) (r : Bool) (w v : ℕ) → r ≡ same w → w ≡ v → r ≡ false → same v ≡ false
-told-no same r w v e h t = sym (e ∙ ap same h) ∙ t
-
-pub told-yes : (same : ℕ → Bool) (r : Bool) (w v : ℕ) → r ≡ same w → w ≡ v → r ≡ true → same v ≡ true
-told-yes same r w v e h t = sym (e ∙ ap same h) ∙ t
-
--- two counts more
-pub two : (s t u : List ℕ) (k j : ℕ) → k ≡ j → t ≡ bumped s k → u ≡ bumped t (32 + k) → u ≡ bumped (bumped s j) (32 + j)
-two s t u k j e p q = q ∙ ap (λ (l : List ℕ). bumped l (32 + k)) p ∙ ap (λ (i : ℕ). bumped (bumped s i) (32 + i)) e
+pub held-end : {A : Type 0} (is : A → ℕ → Bool) (want : ℕ → ℕ) (xs : List A) (i : ℕ) (all : Bool) → length xs ≤ i → held is want i (drop i xs) ≡ all → true ≡ all
+unfolding held
+held-end is want xs i all h e = rw (drop_all i xs h) at e

@@ -1,65 +1,50 @@
 -- What a call left, held to a row.
-use Rattle.std.specs.Prelude.{ℕ, ◌*◌, Bool, true, cond, ◌&&◌, List, length, ◌==◌, nat_lt, slice_index, slice_index_or, Float}
-use Rattle.std.specs.Float.{nan}
-use Rattle.replay_rows.specs.Words.{same_of, word_of, past_of}
-use Rattle.replay_rows.specs.Lists.{each, expected}
-use Rattle.replay_rows.specs.declared.Answer.{Answer}
+use Rattle.std.specs.Prelude.{ℕ, ◌*◌, Bool, cond, ◌&&◌, List, [], length, ◌==◌, nat_lt, slice_index, Float, Result, Ok, Err}
+use Rattle.refusal.specs.declared.Refusal.{Refusal}
+use Rattle.refusal.specs.Said.{Said, said_by}
+use Rattle.refusal.specs.Refusals.{number_of}
+use Rattle.replay_rows.specs.Words.{same_of, past_of}
+use Rattle.replay_rows.specs.declared.Page.{Page}
+use Rattle.replay_rows.specs.Lists.{held, expected}
 
--- an accepted call that counted two lists, and a refused one
-abbrev pub wrote_of : ℕ → ℕ → Answer
-wrote_of p s = record { status = 0; counts = 2; first = p; second = s; third = 0; fourth = 0 }
+-- a status: 0, or the refusal's number
+unfoldable pub status_of : {A : Type 0} → Result A Refusal → ℕ
+status_of (Ok a) = 0
+status_of (Err r) = number_of r
 
-abbrev pub refused_by : ℕ → Answer
-refused_by n = record { status = n; counts = 0; first = 0; second = 0; third = 0; fourth = 0 }
+-- an answer of counts: its number, and they
+abbrev pub answer_said : Result (List ℕ) Refusal → Said ℕ
+answer_said r = said_by (λ counts. counts) r
 
 -- the row ends at a place, and has this status
-unfoldable pub ends_at : List ℕ → ℕ → ℕ → Bool
-ends_at page at status = slice_index page 254 == at && slice_index page 1 == status
+unfoldable pub ends_at : Page → ℕ → ℕ → Bool
+ends_at page at status = page.whole == at && slice_index page.words 1 == status
 
 -- a count of elements; 249 is more than a row has
 unfoldable pub elements_of : ℕ → ℕ
 elements_of n = cond (nat_lt n 249) n 249
 
--- count number i of n is x
-unfoldable pub count_is : List ℕ → ℕ → ℕ → ℕ → ℕ → Bool
-count_is page at n i x = cond (nat_lt i n) (word_of page (past_of at i) == x) true
-
-unfoldable pub counts_are : List ℕ → ℕ → Answer → Bool
-counts_are page at a =
-    count_is page at a.counts 0 a.first && count_is page at a.counts 1 a.second && count_is page at a.counts 2 a.third
-    && count_is page at a.counts 3 a.fourth
-
 -- the counts, and the end after lists of n and m words
-unfoldable pub head_is : List ℕ → ℕ → Answer → ℕ → ℕ → Bool
-head_is page at a n m = counts_are page at a && ends_at page (past_of (past_of (past_of at a.counts) n) m) a.status
+unfoldable pub head_is : Page → ℕ → ℕ → List ℕ → ℕ → ℕ → Bool
+head_is page at status counts n m =
+    held (λ x w. x == w) (expected page at (length counts) 0) 0 counts && ends_at page (past_of (past_of (past_of at (length counts)) n) m) status
 
--- element i of a list of words, and of one of coordinates, is what a row of n words from a place on says
-abbrev pub word_is : List ℕ → ℕ → ℕ → List ℕ → ℕ → ℕ → Bool
-word_is page at n l rest i = slice_index l i == expected page at n rest i
+-- behind the counts a list with `each` words for every one of the first, and starts as many as the second, the rest as it was
+unfoldable pub lists_left : {A : Type 0} → (A → ℕ → Bool) → Page → ℕ → ℕ → List ℕ → ℕ → List A → ℕ → List ℕ → Bool
+lists_left is page at status counts each xs rest ss =
+    let n = elements_of (slice_index counts 0) * each in
+    let m = elements_of (slice_index counts 1) in
+    let p = past_of at (length counts) in
+    head_is page at status counts n m && (held is (expected page p n rest) 0 xs && held (λ x w. x == w) (expected page (past_of p n) m 7) 0 ss)
 
-abbrev pub real_is : List ℕ → ℕ → ℕ → List Float → ℕ → ℕ → Bool
-real_is page at n l rest i = same_of (slice_index_or l i nan) (expected page at n rest i)
+abbrev pub points_left : Page → ℕ → Said ℕ → List Float → List ℕ → Bool
+points_left page at answer ps ss = lists_left same_of page at answer.number answer.values 3 ps 0x4022_0000_0000_0000 ss
 
--- and so is every element
-abbrev pub words_are : List ℕ → ℕ → ℕ → List ℕ → ℕ → Bool
-words_are page at n l rest = each (word_is page at n l rest) (length l)
+abbrev pub numbers_left : Page → ℕ → Said ℕ → List ℕ → List ℕ → Bool
+numbers_left page at answer ns ss = lists_left (λ x w. x == w) page at answer.number answer.values 1 ns 7 ss
 
-abbrev pub reals_are : List ℕ → ℕ → ℕ → List Float → ℕ → Bool
-reals_are page at n l rest = each (real_is page at n l rest) (length l)
-
-unfoldable pub points_left : List ℕ → ℕ → Answer → List Float → List ℕ → Bool
-points_left page at a ps ss =
-    let n = elements_of a.first * 3 in
-    let m = elements_of a.second in
-    let p = past_of at a.counts in
-    head_is page at a n m && reals_are page p n ps 0x4022_0000_0000_0000 && words_are page (past_of p n) m ss 7
-
-unfoldable pub numbers_left : List ℕ → ℕ → Answer → List ℕ → List ℕ → Bool
-numbers_left page at a ns ss =
-    let n = elements_of a.first in
-    let m = elements_of a.second in
-    let p = past_of at a.counts in
-    head_is page at a n m && words_are page p n ns 7 && words_are page (past_of p n) m ss 7
+abbrev pub bytes_left : Page → ℕ → Said ℕ → List ℕ → Bool
+bytes_left page at answer bs = lists_left (λ x w. x == w) page at answer.number answer.values 1 bs 7 []
 
 -- what scratch that held x holds after a call: zero where it was accepted
 unfoldable pub scratch_of : ℕ → ℕ → ℕ

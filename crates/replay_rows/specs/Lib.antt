@@ -1,4 +1,5 @@
 pub mod Words
+pub mod Pages
 pub mod Lists
 pub mod Answers
 pub mod Rows

@@ -1,43 +1,49 @@
 -- How a row is read and counted.
-use Rattle.std.specs.Prelude.{ℕ, ◌+◌, ◌-◌, ◌*◌, ◌/◌, ◌%◌, ◌^◌, Bool, cond, ◌&&◌, List, ◌==◌, nat_lt, slice_index, slice_set}
+use Rattle.std.specs.Prelude.{ℕ, ◌+◌, ◌-◌, ◌*◌, ◌%◌, ◌^◌, Bool, true, cond, not, ◌&&◌, List, ◌==◌, nat_lt, min, slice_index, slice_index_or, slice_set, Option, Some, None}
+use Rattle.replay_rows.specs.declared.Page.{Page}
+use Rattle.replay_rows.specs.declared.Count.{Count}
 
--- the value of a digit, 16 where the byte is none
-unfoldable pub hex_of : ℕ → ℕ
-hex_of b = cond (nat_lt 47 b && nat_lt b 58) (b - 48) (cond (nat_lt 96 b && nat_lt b 103) (b - 87) 16)
+-- the value of a digit, none where the byte is no digit
+unfoldable pub hex_of : ℕ → Option ℕ
+hex_of b = cond (nat_lt 47 b && nat_lt b 58) (Some (b - 48)) (cond (nat_lt 96 b && nat_lt b 103) (Some (b - 87)) None)
+
+abbrev pub spoilt : Page → Page
+spoilt page = record page { spoilt = true }
 
 -- a digit more of the word that is being read; what is no digit, or a word too many, spoils the row
-unfoldable pub fits_in : ℕ → ℕ → Bool
-fits_in d whole = nat_lt d 16 && nat_lt whole 248
+abbrev pub digit_added : Page → Option ℕ → Page
+digit_added page None = spoilt page
+digit_added page (Some d) =
+    cond (nat_lt page.whole 248) (record page { words = slice_set page.words page.whole (slice_index page.words page.whole % 0x1000_0000_0000_0000 * 16 + d) }) (spoilt page)
 
-unfoldable pub with_digit : List ℕ → ℕ → List ℕ
-with_digit page d = cond (fits_in d (slice_index page 254)) (slice_set page (slice_index page 254) (slice_index page (slice_index page 254) % 0x1000_0000_0000_0000 * 16 + d)) (slice_set page 255 1)
+unfoldable pub with_digit : Page → ℕ → Page
+with_digit page b = digit_added page (hex_of b)
 
 -- a word more is whole
-unfoldable pub with_end : List ℕ → List ℕ
-with_end page = cond (nat_lt (slice_index page 254) 248) (slice_set page 254 (slice_index page 254 + 1)) page
+unfoldable pub with_end : Page → Page
+with_end page = cond (nat_lt page.whole 248) (record page { whole = page.whole + 1 }) page
 
 -- a byte: a line's end or a space ends a word
-unfoldable pub fed : List ℕ → ℕ → List ℕ
-fed page b = cond (b == 10) (with_end page) (cond (b == 32) (with_end page) (with_digit page (hex_of b)))
+unfoldable pub fed : Page → ℕ → Page
+fed page b = cond (b == 10) (with_end page) (cond (b == 32) (with_end page) (with_digit page b))
 
 -- the function of a row, 0 where it is none
-unfoldable pub kind_of : List ℕ → ℕ → ℕ
-kind_of page functions = cond (nat_lt functions 33 && nat_lt (slice_index page 0) functions) (slice_index page 0) 0
+unfoldable pub kind_of : Page → ℕ → ℕ
+kind_of page functions = cond (nat_lt functions 33 && nat_lt (slice_index page.words 0) functions) (slice_index page.words 0) 0
 
--- one more
-abbrev pub bumped : List ℕ → ℕ → List ℕ
-bumped counts at = slice_set counts at ((slice_index counts at + 1) % 2 ^ 64)
+-- a row more, and if it does not agree a row that differs
+unfoldable pub one_more : Count → Bool → Count
+one_more c agrees = record { rows = (c.rows + 1) % 2 ^ 64; differ = cond agrees c.differ ((c.differ + 1) % 2 ^ 64) }
 
--- no byte spoilt it, and it agrees
-unfoldable pub good_row : List ℕ → Bool → Bool
-good_row page agrees = slice_index page 255 == 0 && agrees
+abbrev pub no_count : Count
+no_count = record { rows = 0; differ = 0 }
 
--- a row more, and if it does not agree or is none a row that differs
-unfoldable pub counted : List ℕ → List ℕ → ℕ → Bool → List ℕ
+-- one that no byte spoilt may agree
+unfoldable pub counted : Page → List Count → ℕ → Bool → List Count
 counted page counts functions agrees =
     let k = kind_of page functions in
-    cond (good_row page agrees) (bumped counts k) (bumped (bumped counts k) (32 + k))
+    slice_set counts k (one_more (slice_index_or counts k no_count) (agrees && not page.spoilt))
 
--- how many names of sixteen bytes are in n bytes, at most 32
+-- how many names are printed, at most 32
 unfoldable pub names_in : ℕ → ℕ
-names_in n = cond (nat_lt (n / 16) 32) (n / 16) 32
+names_in n = min n 32

@@ -1,26 +1,27 @@
 // The rows of stored answers: their words, the lists that a call is lent, what it left there, and how many rows differ.
 //
 // A row is words of hexadecimal digits with a space between: the function's number, the status, and what the function takes and
-// gives. Two NaN count as equal. A page holds the words of the row that is being read, and after them how many of them are whole
-// and whether a byte came that belongs to no row.
+// gives. Two NaN count as equal.
 #![tactic(auto)]
 
-ghost use Rattle.std.specs.Prelude.{◌≡◌, ◌*◌, ◌<◌, ◌≤◌, length, replicate, ◌==◌, from_bits, IfOk};
+ghost use Rattle.std.specs.Prelude.{◌≡◌, ℕ, Bool, [], ◌∷◌, ◌%◌, ◌*◌, ◌<◌, ◌≤◌, length, ◌==◌, from_bits, slice_index, IfOk, IfSome};
 ghost use Rattle.std.specs.Float.{binary64};
 ghost use Rattle.std.specs.Float.Ieee.{nan_bits};
-ghost use Rattle.replay_rows.specs.Words.{plus_zero, same_of, word_of, past_of, list_size, u32_of, real_of, byte_of};
-ghost use Rattle.replay_rows.specs.Lists.{filled, expected};
-ghost use Rattle.replay_rows.specs.Answers.{wrote_of, refused_by, ends_at, elements_of, count_is, counts_are, head_is, words_are, reals_are, points_left, numbers_left, scratch_of};
-ghost use Rattle.replay_rows.specs.Rows.{hex_of, fits_in, with_digit, with_end, fed, kind_of, good_row, bumped, counted, names_in};
+ghost use Rattle.replay_rows.specs.Words.{same_of, past_of};
+ghost use Rattle.replay_rows.specs.Pages.{blank, word_of, list_size, point_of, matrix_of};
+ghost use Rattle.replay_rows.specs.Lists.{filled, held, expected};
+ghost use Rattle.replay_rows.specs.Answers.{status_of, answer_said, ends_at, elements_of, head_is, lists_left, points_left, numbers_left, bytes_left, scratch_of};
+ghost use Rattle.replay_rows.specs.Rows.{hex_of, with_digit, with_end, fed, kind_of, one_more, counted, names_in};
 
+use path::Place;
+use refusal::{Refusal, number};
 use std::io;
+use std::io::Read;
+use vector::Vector;
+use vector::matrix::Matrix;
 
-// The places of a page after its words.
+// The most words of a row.
 const WORDS: usize = 248;
-
-const WHOLE: usize = 254;
-
-const SPOILT: usize = 255;
 
 // What every list that is lent holds before a call: words, bytes and coordinates, and the pattern of these.
 pub const DIRT: u32 = 7;
@@ -60,17 +61,79 @@ pub fn same(x: f64, bits: u64) -> bool
     no_number(bits)
 }
 
-// The word at a place, 0 past the row.
-pub fn word(page: &[u64; 256], at: usize) -> u64
-    ensures { result ≡ word_of page.now at }
-{
-    if at < WORDS {
-        return page[at];
+// An element of a list, which stands in a row as a word.
+pub trait Element: Copy {
+    ghost of: { ℕ → Self };
+
+    ghost is: { Self → ℕ → Bool };
+
+    // The element that a word says.
+    fn of_word(word: u64) -> Self
+        ensures { result ≡ of word };
+
+    // Whether the element is the one that a word says.
+    fn is_word(self, word: u64) -> bool
+        ensures { result ≡ is self word };
+}
+
+impl Element for u8 {
+    ghost of = { λ w. w % 256 };
+
+    ghost is = { λ x w. x == w };
+
+    fn of_word(word: u64) -> u8 {
+        (word % 256) as u8
     }
-    0
+
+    fn is_word(self, word: u64) -> bool {
+        self as u64 == word
+    }
+}
+
+impl Element for u32 {
+    ghost of = { λ w. w % 4294967296 };
+
+    ghost is = { λ x w. x == w };
+
+    fn of_word(word: u64) -> u32 {
+        (word % 4294967296) as u32
+    }
+
+    fn is_word(self, word: u64) -> bool {
+        self as u64 == word
+    }
+}
+
+impl Element for u64 {
+    ghost of = { λ w. w };
+
+    ghost is = { λ x w. x == w };
+
+    fn of_word(word: u64) -> u64 {
+        word
+    }
+
+    fn is_word(self, word: u64) -> bool {
+        self == word
+    }
+}
+
+impl Element for f64 {
+    ghost of = { λ w. from_bits binary64 w };
+
+    ghost is = { λ x w. same_of x w };
+
+    fn of_word(word: u64) -> f64 {
+        real(word)
+    }
+
+    fn is_word(self, word: u64) -> bool {
+        same(self, word)
+    }
 }
 
 // The place n words after another; 249 is past every row.
+#[tactic(auto, unfolding(crate::specs::Words::past_of))]
 pub fn past(at: usize, n: usize) -> usize
     ensures { result ≡ past_of at n }
 {
@@ -82,196 +145,8 @@ pub fn past(at: usize, n: usize) -> usize
     249
 }
 
-// A count of a list, which has at most 96.
-pub fn size(page: &[u64; 256], at: usize) -> usize
-    ensures { (result ≡ list_size page.now at) × (result ≤ 96) }
-{
-    let n = word(page, at);
-    if n < 96 {
-        return n as usize;
-    }
-    96
-}
-
-// The number at a place.
-pub fn number(page: &[u64; 256], at: usize) -> u32
-    ensures { result ≡ u32_of page.now at }
-{
-    (word(page, at) % 4294967296) as u32
-}
-
-// The coordinate at a place.
-pub fn real_at(page: &[u64; 256], at: usize) -> f64
-    ensures { result ≡ real_of page.now at }
-{
-    real(word(page, at))
-}
-
-// The byte at a place.
-pub fn byte(page: &[u64; 256], at: usize) -> u8
-    ensures { result ≡ byte_of page.now at }
-{
-    (word(page, at) % 256) as u8
-}
-
-// ---- lists
-
-// The 96 words from a place on, as a list of numbers.
-pub fn numbers(page: &[u64; 256], at: usize) -> [u32; 96]
-    ensures { (result ≡ filled (λ i. u32_of page.now (past_of at i)) (replicate 96 0) 96) × (length result ≡ 96) }
-{
-    let mut list = [0u32; 96];
-    let mut i = 0;
-    while i < 96 {
-        list[i] = number(page, past(at, i));
-        i += 1;
-    }
-    list
-}
-
-// The 96 words from a place on, as a list of coordinates.
-pub fn reals(page: &[u64; 256], at: usize) -> [f64; 96]
-    ensures { (result ≡ filled (λ i. real_of page.now (past_of at i)) (replicate 96 plus_zero) 96) × (length result ≡ 96) }
-{
-    let mut list = [0.0; 96];
-    let mut i = 0;
-    while i < 96 {
-        list[i] = real_at(page, past(at, i));
-        i += 1;
-    }
-    list
-}
-
-// All words from a place on, as a list of bytes; no row has as many as 249.
-pub fn bytes(page: &[u64; 256], at: usize) -> [u8; 249]
-    ensures { (result ≡ filled (λ i. byte_of page.now (past_of at i)) (replicate 249 0) 249) × (length result ≡ 249) }
-{
-    let mut list = [0u8; 249];
-    let mut i = 0;
-    while i < 249 {
-        list[i] = byte(page, past(at, i));
-        i += 1;
-    }
-    list
-}
-
-// What is to stand at place i of a list that begins with n words and is as it was after them.
-fn expect(page: &[u64; 256], at: usize, n: usize, rest: u64, i: usize) -> u64
-    ensures { result ≡ expected page.now at n rest i }
-{
-    if i < n {
-        return word(page, past(at, i));
-    }
-    rest
-}
-
-fn number_is(x: u32, w: u64) -> bool
-    ensures { result ≡ (x == w) }
-{
-    x as u64 == w
-}
-
-fn byte_is(x: u8, w: u64) -> bool
-    ensures { result ≡ (x == w) }
-{
-    x as u64 == w
-}
-
-// Whether a list begins with n words, and is as it was after them.
-pub fn begins(page: &[u64; 256], at: usize, n: usize, list: &[u32], rest: u64) -> bool
-    ensures { result ≡ words_are page.now at n list.now rest }
-{
-    let mut i = 0;
-    while i < list.len() {
-        if !number_is(list[i], expect(page, at, n, rest, i)) {
-            return false;
-        }
-        i += 1;
-    }
-    true
-}
-
-// The same of coordinates.
-pub fn begins_real(page: &[u64; 256], at: usize, n: usize, list: &[f64], rest: u64) -> bool
-    ensures { result ≡ reals_are page.now at n list.now rest }
-{
-    let mut i = 0;
-    while i < list.len() {
-        if !same(list[i], expect(page, at, n, rest, i)) {
-            return false;
-        }
-        i += 1;
-    }
-    true
-}
-
-// The same of bytes.
-pub fn begins_bytes(page: &[u64; 256], at: usize, n: usize, list: &[u8], rest: u64) -> bool
-    ensures { result ≡ words_are page.now at n list.now rest }
-{
-    let mut i = 0;
-    while i < list.len() {
-        if !byte_is(list[i], expect(page, at, n, rest, i)) {
-            return false;
-        }
-        i += 1;
-    }
-    true
-}
-
-// ---- answers
-
-// What a call answered: its status, and where that is 0 so many of the counts. What it wrote are two lists, as long as the first
-// two counts say.
-#[derive(Clone, Copy)]
-pub struct Answer {
-    pub status: u64,
-    pub counts: usize,
-    pub first: u64,
-    pub second: u64,
-    pub third: u64,
-    pub fourth: u64,
-}
-
-// An accepted call that counted two lists.
-pub fn wrote(first: usize, second: usize) -> Answer
-    ensures { result ≡ wrote_of first second }
-{
-    Answer {
-        status: 0,
-        counts: 2,
-        first: first as u64,
-        second: second as u64,
-        third: 0,
-        fourth: 0,
-    }
-}
-
-// A refused call.
-pub fn refused(status: u32) -> Answer
-    ensures { result ≡ refused_by status }
-{
-    Answer {
-        status: status as u64,
-        counts: 0,
-        first: 0,
-        second: 0,
-        third: 0,
-        fourth: 0,
-    }
-}
-
-// Whether the row ends at a place, and has this status.
-pub fn ends(page: &[u64; 256], at: usize, status: u64) -> bool
-    ensures { result ≡ ends_at page.now at status }
-{
-    if page[WHOLE] != at as u64 {
-        return false;
-    }
-    page[1] == status
-}
-
 // A count of elements that a call answered; 249 is more than a row has.
+#[tactic(auto, unfolding(crate::specs::Answers::elements_of))]
 pub fn elements(n: u64) -> usize
     ensures { (result ≡ elements_of n) × (result ≤ 249) }
 {
@@ -281,81 +156,8 @@ pub fn elements(n: u64) -> usize
     249
 }
 
-// Whether count number i, where there are n, is x.
-fn count_is(page: &[u64; 256], at: usize, n: usize, i: usize, x: u64) -> bool
-    ensures { result ≡ count_is page.now at n i x }
-{
-    if i < n {
-        return word(page, past(at, i)) == x;
-    }
-    true
-}
-
-// Whether the row has the counts of an answer from place `at` on.
-fn counts_are(page: &[u64; 256], at: usize, a: Answer) -> bool
-    ensures { result ≡ counts_are page.now at a }
-{
-    if !count_is(page, at, a.counts, 0, a.first) {
-        return false;
-    }
-    if !count_is(page, at, a.counts, 1, a.second) {
-        return false;
-    }
-    if !count_is(page, at, a.counts, 2, a.third) {
-        return false;
-    }
-    count_is(page, at, a.counts, 3, a.fourth)
-}
-
-// The same, and that the row ends after two lists of n and m words.
-pub fn head_is(page: &[u64; 256], at: usize, a: Answer, n: usize, m: usize) -> bool
-    ensures { result ≡ head_is page.now at a n m }
-{
-    if !counts_are(page, at, a) {
-        return false;
-    }
-    ends(page, past(past(past(at, a.counts), n), m), a.status)
-}
-
-// Whether points and starts were left as the row says from place `at` on: all as it was where the call was refused.
-pub fn points_left(page: &[u64; 256], at: usize, a: Answer, points: &[f64], starts: &[u32]) -> bool
-    ensures { result ≡ points_left page.now at a points.now starts.now }
-{
-    let n = elements(a.first) * 3;
-    let m = elements(a.second);
-    if !head_is(page, at, a, n, m) {
-        return false;
-    }
-    let p = past(at, a.counts);
-    if !begins_real(page, p, n, points, GRIT_BITS) {
-        return false;
-    }
-    begins(page, past(p, n), m, starts, DIRT as u64)
-}
-
-// The same of numbers and starts.
-pub fn numbers_left(
-    page: &[u64; 256],
-    at: usize,
-    a: Answer,
-    numbers: &[u32],
-    starts: &[u32],
-) -> bool
-    ensures { result ≡ numbers_left page.now at a numbers.now starts.now }
-{
-    let n = elements(a.first);
-    let m = elements(a.second);
-    if !head_is(page, at, a, n, m) {
-        return false;
-    }
-    let p = past(at, a.counts);
-    if !begins(page, p, n, numbers, DIRT as u64) {
-        return false;
-    }
-    begins(page, past(p, n), m, starts, DIRT as u64)
-}
-
 // What scratch that held x holds after a call of this status: zero where it was accepted.
+#[tactic(auto, unfolding(crate::specs::Answers::scratch_of))]
 fn scratch_of(status: u64, x: u64) -> u64
     ensures { result ≡ scratch_of status x }
 {
@@ -365,186 +167,424 @@ fn scratch_of(status: u64, x: u64) -> u64
     x
 }
 
-// Whether words of scratch are all as a call of this status leaves them.
-pub fn scratch_left(page: &[u64; 256], status: u64, scratch: &[u32]) -> bool
-    ensures { result ≡ words_are page.now 0 0 scratch.now (scratch_of status 7) }
-{
-    begins(page, 0, 0, scratch, scratch_of(status, DIRT as u64))
-}
-
-// The same of numbers.
-pub fn seen_left(page: &[u64; 256], status: u64, seen: &[f64]) -> bool
-    ensures { result ≡ reals_are page.now 0 0 seen.now (scratch_of status 0x4022_0000_0000_0000) }
-{
-    begins_real(page, 0, 0, seen, scratch_of(status, GRIT_BITS))
-}
-
 // ---- rows
 
-// The value of a digit, 16 where the byte is none.
-fn digit(b: u8) -> u64
-    ensures { result ≡ hex_of b }
-{
-    if 47 < b {
-        if b < 58 {
-            return b as u64 - 48;
+// A row as it is read: its words, how many of them are whole, and whether a byte came that belongs to no row.
+#[derive(Drop)]
+pub struct Page {
+    pub words: [u64; WORDS],
+    pub whole: usize,
+    pub spoilt: bool,
+}
+
+impl Page {
+    pub fn new() -> Page
+        ensures { result ≡ blank }
+    {
+        Page {
+            words: [0; WORDS],
+            whole: 0,
+            spoilt: false,
         }
-        if 96 < b {
-            if b < 103 {
-                return b as u64 - 87;
+    }
+
+    // The word at a place, 0 past the row.
+    #[tactic(auto, unfolding(crate::specs::Pages::word_of))]
+    pub fn word(&self, at: usize) -> u64
+        ensures { result ≡ word_of self.now at }
+    {
+        if at < WORDS {
+            return self.words[at];
+        }
+        0
+    }
+
+    // A count of a list, which has at most 96.
+    #[tactic(auto, unfolding(crate::specs::Pages::list_size))]
+    pub fn size(&self, at: usize) -> usize
+        ensures { (result ≡ list_size self.now at) × (result ≤ 96) }
+    {
+        let n = self.word(at);
+        if n < 96 {
+            return n as usize;
+        }
+        96
+    }
+
+    // The element at a place.
+    pub fn element<T: Element>(&self, at: usize) -> T
+        ensures { result ≡ T.of (word_of self.now at) }
+    {
+        T::of_word(self.word(at))
+    }
+
+    // The point at a place.
+    #[tactic(auto, unfolding(crate::specs::Pages::point_of))]
+    pub fn point(&self, at: usize) -> Vector
+        ensures { result ≡ point_of self.now at }
+    {
+        Vector {
+            x: self.element(at),
+            y: self.element(past(at, 1)),
+            z: self.element(past(at, 2)),
+        }
+    }
+
+    // The matrix at a place, row by row.
+    #[tactic(auto, unfolding(crate::specs::Pages::matrix_of, crate::specs::Lists::filled))]
+    pub fn matrix(&self, at: usize) -> Matrix
+        ensures { result ≡ matrix_of self.now at }
+    {
+        let mut m = [0.0; 16];
+        self.fill(at, &mut m);
+        Matrix {
+            x00: m[0],
+            x01: m[1],
+            x02: m[2],
+            x03: m[3],
+            x10: m[4],
+            x11: m[5],
+            x12: m[6],
+            x13: m[7],
+            x20: m[8],
+            x21: m[9],
+            x22: m[10],
+            x23: m[11],
+            x30: m[12],
+            x31: m[13],
+            x32: m[14],
+            x33: m[15],
+        }
+    }
+
+    // Fills a list with the elements from a place on.
+    pub fn fill<T: Element>(&self, at: usize, list: &mut [T])
+        ensures { list.new ≡ filled (λ i. T.of (word_of self.now (past_of at i))) list.old (length list.old) }
+    {
+        for i in 0..list.len() {
+            list[i] = self.element(past(at, i));
+        }
+    }
+
+    // What is to stand at place i of a list that begins with n words and is as it was after them.
+    #[tactic(auto, unfolding(crate::specs::Lists::expected))]
+    fn expect(&self, at: usize, n: usize, rest: u64, i: usize) -> u64
+        ensures { result ≡ expected self.now at n rest i }
+    {
+        if i < n {
+            return self.word(past(at, i));
+        }
+        rest
+    }
+
+    // Whether a list begins with n words, and is as it was after them.
+    pub fn begins<T: Element>(&self, at: usize, n: usize, list: &[T], rest: u64) -> bool
+        ensures { result ≡ held T.is (expected self.now at n rest) 0 list.now }
+    {
+        for (i, x) in list.iter().enumerate() {
+            if !x.is_word(self.expect(at, n, rest, i)) {
+                return false;
             }
         }
+        true
     }
-    16
-}
 
-// Whether d is a digit, and there is room for it.
-fn digit_fits(d: u64, whole: u64) -> bool
-    ensures { result ≡ fits_in d whole }
-{
-    if d < 16 {
-        return whole < WORDS as u64;
-    }
-    false
-}
-
-// A digit more of the word that is being read, or a row that is none.
-fn add_digit(page: &mut [u64; 256], d: u64)
-    ensures { page.new ≡ with_digit page.old d }
-{
-    let whole = page[WHOLE];
-    if digit_fits(d, whole) {
-        let at = whole as usize;
-        page[at] = page[at] % 0x1000_0000_0000_0000 * 16 + d;
-        return;
-    }
-    page[SPOILT] = 1;
-}
-
-// The word that was being read is whole.
-fn end_word(page: &mut [u64; 256])
-    ensures { page.new ≡ with_end page.old }
-{
-    let whole = page[WHOLE];
-    if whole < WORDS as u64 {
-        page[WHOLE] = whole + 1;
+    // Whether the row ends at a place, and has this status.
+    #[tactic(auto, unfolding(crate::specs::Answers::ends_at))]
+    pub fn ends(&self, at: usize, status: u64) -> bool
+        ensures { result ≡ ends_at self.now at status }
+    {
+        self.whole == at && self.words[1] == status
     }
 }
 
-// Takes a byte in, and answers whether it ends the row.
-pub fn take_byte(page: &mut [u64; 256], b: u8) -> bool
-    ensures { (page.new ≡ fed page.old b) × (result ≡ (b == 10)) }
+// ---- answers
+
+// The status of an answer: 0, or the refusal's number.
+#[tactic(auto, unfolding(crate::specs::Answers::status_of))]
+pub fn status<T>(answer: &Result<T, Refusal>) -> u64
+    ensures { result ≡ status_of answer.now }
 {
-    if b == b'\n' {
-        end_word(page);
-        return true;
+    match answer {
+        Ok(_) => 0,
+        Err(why) => number(*why) as u64,
     }
-    if b == b' ' {
-        end_word(page);
-        return false;
-    }
-    add_digit(page, digit(b));
-    false
 }
 
-// The function of a row, 0 where it is none.
-fn kind(page: &[u64; 256], functions: usize) -> usize
-    ensures { (result ≡ kind_of page.now functions) × (result < 32) }
+// The counts of a call that wrote points and starts.
+pub fn placed(p: Place) -> [u64; 2]
+    ensures { result ≡ p.points ∷ p.starts ∷ [] }
 {
-    let function = page[0];
-    if functions < 33 {
-        if function < functions as u64 {
-            return function as usize;
+    [p.points as u64, p.starts as u64]
+}
+
+// A count of an answer, 0 where it has no such count.
+fn count_at(counts: &[u64], i: usize) -> u64
+    ensures { result ≡ slice_index counts.now i }
+{
+    counts.get(i).copied().unwrap_or(0)
+}
+
+impl Page {
+    // Whether the row has these counts from a place on, ends after two lists of n and m words behind them, and has this status.
+    #[tactic(auto, unfolding(crate::specs::Answers::head_is))]
+    pub fn head_is(&self, at: usize, status: u64, counts: &[u64], n: usize, m: usize) -> bool
+        ensures { result ≡ head_is self.now at status counts.now n m }
+    {
+        let end = past(past(past(at, counts.len()), n), m);
+        self.begins(at, counts.len(), counts, 0) && self.ends(end, status)
+    }
+
+    // Whether two lists were left as the row says from place `at` on, `each` words an element of the first, which held `rest`: all as it
+    // was where the call was refused, and so had no counts.
+    #[tactic(auto, unfolding(crate::specs::Answers::lists_left))]
+    pub fn lists_left<T: Element>(
+        &self,
+        at: usize,
+        status: u64,
+        counts: &[u64],
+        each: usize,
+        list: &[T],
+        rest: u64,
+        starts: &[u32],
+    ) -> bool
+        requires { each ≤ 3 }
+        ensures { result ≡ lists_left T.is self.now at status counts.now each list.now rest starts.now }
+    {
+        let n = elements(count_at(counts, 0)) * each;
+        let m = elements(count_at(counts, 1));
+        let p = past(at, counts.len());
+        self.head_is(at, status, counts, n, m)
+            && self.begins(p, n, list, rest)
+            && self.begins(past(p, n), m, starts, DIRT as u64)
+    }
+
+    // Whether points and starts were left as the row says from place `at` on.
+    #[tactic(auto, unfolding(crate::specs::Answers::status_of))]
+    pub fn points_left<const N: usize>(
+        &self,
+        at: usize,
+        answer: &Result<[u64; N], Refusal>,
+        points: &[f64],
+        starts: &[u32],
+    ) -> bool
+        ensures { result ≡ points_left self.now at (answer_said answer.now) points.now starts.now }
+    {
+        match answer {
+            Ok(counts) => self.lists_left(at, 0, counts, 3, points, GRIT_BITS, starts),
+            Err(_) => self.lists_left(at, status(answer), &[], 3, points, GRIT_BITS, starts),
         }
     }
-    0
-}
 
-fn bump(counts: &mut [u64; 64], at: usize)
-    requires { at < 64 }
-    ensures { counts.new ≡ bumped counts.old at }
-{
-    counts[at] = std::num::wrapping_add_u64(counts[at], 1);
-}
-
-// Whether no byte spoilt a row that agrees.
-fn good(page: &[u64; 256], agrees: bool) -> bool
-    ensures { result ≡ good_row page.now agrees }
-{
-    if page[SPOILT] == 0 {
-        return agrees;
+    // The same of numbers and starts.
+    #[tactic(auto, unfolding(crate::specs::Answers::status_of))]
+    pub fn numbers_left<const N: usize>(
+        &self,
+        at: usize,
+        answer: &Result<[u64; N], Refusal>,
+        numbers: &[u32],
+        starts: &[u32],
+    ) -> bool
+        ensures { result ≡ numbers_left self.now at (answer_said answer.now) numbers.now starts.now }
+    {
+        match answer {
+            Ok(counts) => self.lists_left(at, 0, counts, 1, numbers, DIRT as u64, starts),
+            Err(_) => self.lists_left(at, status(answer), &[], 1, numbers, DIRT as u64, starts),
+        }
     }
-    false
-}
 
-// Counts a row that is whole, and if it does not agree or is none also as one that differs, 32 places on; the next begins.
-pub fn end_row(page: &mut [u64; 256], counts: &mut [u64; 64], functions: usize, agrees: bool)
-    ensures { (page.new ≡ replicate 256 0) × (counts.new ≡ counted page.old counts.old functions agrees) }
-{
-    let k = kind(page, functions);
-    let fine = good(page, agrees);
-    *page = [0; 256];
-    bump(counts, k);
-    if !fine {
-        bump(counts, 32 + k);
+    // The same of bytes alone.
+    #[tactic(auto, unfolding(crate::specs::Answers::status_of))]
+    pub fn bytes_left<const N: usize>(
+        &self,
+        at: usize,
+        answer: &Result<[u64; N], Refusal>,
+        bytes: &[u8],
+    ) -> bool
+        ensures { result ≡ bytes_left self.now at (answer_said answer.now) bytes.now }
+    {
+        match answer {
+            Ok(counts) => self.lists_left(at, 0, counts, 1, bytes, DUST as u64, &[]),
+            Err(_) => self.lists_left(at, status(answer), &[], 1, bytes, DUST as u64, &[]),
+        }
+    }
+
+    // Whether scratch that held `rest` is all as a call of this status leaves it.
+    pub fn scratch_left<T: Element>(&self, status: u64, scratch: &[T], rest: u64) -> bool
+        ensures { result ≡ held T.is (expected self.now 0 0 (scratch_of status rest)) 0 scratch.now }
+    {
+        self.begins(0, 0, scratch, scratch_of(status, rest))
     }
 }
 
-// ---- what is printed
+// ---- reading
 
-fn print(rt: &impl Print, text: &[u8]) -> io::Result<()> {
-    rt.write_all(text)
-}
-
-fn print_counts(rt: &impl Print, rows: u64, differ: u64) -> io::Result<()> {
-    println!(rt; " {rows} rows, {differ} differ")
-}
-
-// The sum of 32 counts.
-fn sum(counts: &[u64; 64], from: usize) -> u64
-    requires { from ≤ 32 }
+// The value of a digit, none where the byte is no digit.
+#[tactic(auto, unfolding(crate::specs::Rows::hex_of))]
+fn digit(b: u8) -> Option<u64>
+    ensures value { result ≡ hex_of b }
+    ensures bound { IfSome result (λ d. d < 16) }
 {
-    let mut all: u64 = 0;
-    let mut i = 0;
-    while i < 32 {
-        all = std::num::wrapping_add_u64(all, counts[from + i]);
-        i += 1;
+    match b {
+        b'0'..=b'9' => Some(b as u64 - 48),
+        b'a'..=b'f' => Some(b as u64 - 87),
+        _ => None,
     }
-    all
 }
 
-// How many names of sixteen bytes there are, at most 32.
-fn named(names: &[u8]) -> usize
-    ensures { (result ≡ names_in (length names.now)) × (result ≤ 32) × (result * 16 ≤ length names.now) }
-{
-    let n = names.len() / 16;
-    if n < 32 {
-        return n;
+impl Page {
+    // A digit more of the word that is being read; a byte that is no digit, or a word too many, spoils the row.
+    #[tactic(auto, unfolding(crate::specs::Rows::with_digit))]
+    fn add_digit(&mut self, b: u8)
+        ensures { self.new ≡ with_digit self.old b }
+    {
+        match digit(b) {
+            Some(d) if self.whole < WORDS => {
+                let w = self.words[self.whole];
+                self.words[self.whole] = w % 0x1000_0000_0000_0000 * 16 + d;
+            }
+            _ => self.spoilt = true,
+        }
     }
-    32
+
+    // The word that was being read is whole.
+    #[tactic(auto, unfolding(crate::specs::Rows::with_end))]
+    fn end_word(&mut self)
+        ensures { self.new ≡ with_end self.old }
+    {
+        if self.whole < WORDS {
+            self.whole += 1;
+        }
+    }
+
+    // Takes a byte in, and answers whether it ends the row.
+    #[tactic(auto, unfolding(crate::specs::Rows::fed))]
+    pub fn take_byte(&mut self, b: u8) -> bool
+        ensures { (self.new ≡ fed self.old b) × (result ≡ (b == 10)) }
+    {
+        match b {
+            b'\n' | b' ' => self.end_word(),
+            _ => self.add_digit(b),
+        }
+        b == b'\n'
+    }
+
+    // The function of a row, 0 where it is none.
+    #[tactic(auto, unfolding(crate::specs::Rows::kind_of))]
+    fn kind(&self, functions: usize) -> usize
+        ensures { (result ≡ kind_of self.now functions) × (result < 32) }
+    {
+        let function = self.words[0];
+        if functions < 33 {
+            if function < functions as u64 {
+                return function as usize;
+            }
+        }
+        0
+    }
 }
 
-// Prints a line for each of n names.
-fn print_lines(rt: &impl Print, names: &[u8], counts: &[u64; 64], n: usize) -> io::Result<()>
-    requires { (n ≤ 32) × (n * 16 ≤ length names.now) }
+// ---- counting
+
+// How many rows of a function came, and how many of them differ.
+#[derive(Clone, Copy)]
+pub struct Count {
+    pub rows: u64,
+    pub differ: u64,
+}
+
+impl Count {
+    // One row more.
+    #[tactic(auto, unfolding(crate::specs::Rows::one_more))]
+    fn add(&mut self, agrees: bool)
+        ensures { self.new ≡ one_more self.old agrees }
+    {
+        self.rows = self.rows.wrapping_add(1);
+        if !agrees {
+            self.differ = self.differ.wrapping_add(1);
+        }
+    }
+}
+
+// Counts a row that is whole, as one that differs if it does not agree or is none; the next begins.
+#[tactic(auto, unfolding(crate::specs::Rows::counted))]
+pub fn end_row(page: &mut Page, counts: &mut [Count; 32], functions: usize, agrees: bool)
+    ensures { (page.new ≡ blank) × (counts.new ≡ counted page.old counts.old functions agrees) }
 {
-    for k in 0..n {
-        let at = k * 16;
-        let end = at + 16;
-        print(rt, &names[at..end])?;
-        print_counts(rt, counts[k], counts[32 + k])?;
+    let k = page.kind(functions);
+    counts[k].add(agrees && !page.spoilt);
+    *page = Page::new();
+}
+
+fn take_bytes<F: Fn(&Page) -> bool>(
+    bytes: &[u8],
+    page: &mut Page,
+    counts: &mut [Count; 32],
+    functions: usize,
+    agrees: &F,
+)
+    requires { F.IsAlwaysCallable agrees.now }
+{
+    for b in bytes {
+        if page.take_byte(*b) {
+            let agreed = agrees(page);
+            end_row(page, counts, functions, agreed);
+        }
+    }
+}
+
+// Reads to the end. Nothing says that an input ends, so the turns are counted to a number that no run uses up.
+fn read_rows<F: Fn(&Page) -> bool>(
+    input: &mut impl Read,
+    counts: &mut [Count; 32],
+    functions: usize,
+    agrees: &F,
+) -> io::Result<()>
+    requires { F.IsAlwaysCallable agrees.now }
+{
+    let mut buffer = [0u8; 65536];
+    let mut page = Page::new();
+    for _ in 0..u64::MAX {
+        let n = input.read(&mut buffer)?;
+        if n == 0 {
+            break;
+        }
+        take_bytes(&buffer[..n], &mut page, counts, functions, agrees);
     }
     Ok(())
 }
 
-// Prints a line for each name of sixteen bytes, at most 32, and one for all, and answers how many names there are. No contract can
-// say what is printed.
-pub fn print_rows(rt: &impl Print, names: &[u8], counts: &[u64; 64]) -> io::Result<usize>
+// ---- what is printed
+
+// Prints a line for each name, at most 32, and one for all, and answers how many names there are. No contract can say what is printed.
+#[tactic(auto, unfolding(crate::specs::Rows::names_in))]
+pub fn print_rows(rt: &impl Print, names: &[&str], counts: &[Count; 32]) -> io::Result<usize>
     ensures { IfOk result (λ n. n ≡ names_in (length names.now)) }
 {
-    let n = named(names);
-    print_lines(rt, names, counts, n)?;
-    print(rt, b"all             ")?;
-    print_counts(rt, sum(counts, 0), sum(counts, 32))?;
+    let n = names.len().min(32);
+    let mut all = Count { rows: 0, differ: 0 };
+    for (name, count) in names.iter().zip(counts) {
+        println!(rt; "{name:<16} {} rows, {} differ", count.rows, count.differ)?;
+    }
+    for count in counts {
+        all.rows = all.rows.wrapping_add(count.rows);
+        all.differ = all.differ.wrapping_add(count.differ);
+    }
+    println!(rt; "{:<16} {} rows, {} differ", "all", all.rows, all.differ)?;
     Ok(n)
+}
+
+// Reads rows to the end of an input, works each out, and prints how many came and how many differ. The first name is that of no function.
+pub fn replay<F: Fn(&Page) -> bool>(
+    rt: &impl Print,
+    input: &mut impl Read,
+    names: &[&str],
+    agrees: F,
+) -> io::Result<()>
+    requires { F.IsAlwaysCallable agrees }
+{
+    let mut counts = [Count { rows: 0, differ: 0 }; 32];
+    read_rows(input, &mut counts, names.len(), &agrees)?;
+    print_rows(rt, names, &counts)?;
+    Ok(())
 }

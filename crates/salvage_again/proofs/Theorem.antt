@@ -1,4 +1,5 @@
 -- What salvage promises, of all bytes.
+use Rattle.std.specs.Prelude.{Ok}
 use mathlib.Core.Path.{◌≡◌, refl, sym, ap, ◌∙◌}
 use mathlib.Core.Bool.{true, ◌&&◌}
 use mathlib.Core.List.{List, [], ◌∷◌}
@@ -9,7 +10,6 @@ use lib.Seq.{take-length}
 use lib.Dec.{leb, ltb, eqb}
 use borrow.Author.Tests.{le-leb, leb-true, eq-eqb, eqb-true, ltb-true}
 use Rattle.refusal.specs.Limits.{most_vertices, most_strokes, most_points}
-use Rattle.refusal.specs.declared.Verdict.TheVariants.{Accepted}
 use Rattle.refusal.specs.Refusals.{unless}
 use Rattle.refusal.specs.Outcome.{outcome}
 use Rattle.path.specs.Strokes.{strokes_of, number_at, strokes_in}
@@ -136,7 +136,7 @@ keeps-sheets bs b h = unchanged bs b h
 
 -- ---- what is written is a sheet
 
-module _ (bs : List ℕ) (room : ℕ) (h : verdict_of bs room ≡ Accepted) where
+module _ (bs : List ℕ) (room : ℕ) (h : verdict_of bs room ≡ (Ok tt)) where
   written : is_sheet (salvaged bs) ≡ true
   unfolding verdict_of kept_verdict header_usable counts_good salvaged saved_in
   written =

@@ -1,7 +1,7 @@
 -- What salvage promises: of what the call leaves (`Unchanged`, `LosesTail`), and of the definitions that say what it leaves. proofs/Theorem proves
 -- it of all bytes.
+use Rattle.std.specs.Prelude.{Ok}
 use Rattle.std.specs.Prelude.{◌≡◌, true, cond, List, [], ◌∷◌, ℕ, ◌+◌, ◌-◌, ◌*◌, ◌/◌, ◌≤◌, length, take, ltb, eqb}
-use Rattle.refusal.specs.declared.Verdict.TheVariants.{Accepted}
 use Rattle.refusal.specs.Each.{Each}
 use Rattle.refusal.specs.Said.{accepted}
 use Rattle.path.specs.Strokes.{gather, strokes_of, number_at}
@@ -21,7 +21,7 @@ Unchanged bs = (out : List ℕ) → length bs ≤ length out → salvage_left bs
 
 -- what is written is a sheet, and salvaged again it is written as it is
 abbrev pub WritesSheets : List ℕ → ℕ → Type 0
-WritesSheets bs room = verdict_of bs room ≡ Accepted → (is_sheet (salvaged bs) ≡ true) × Unchanged (salvaged bs)
+WritesSheets bs room = verdict_of bs room ≡ (Ok tt) → (is_sheet (salvaged bs) ≡ true) × Unchanged (salvaged bs)
 
 -- a sheet is written as it is
 abbrev pub KeepsSheets : List ℕ → Type 0

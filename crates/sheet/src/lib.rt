@@ -63,7 +63,8 @@ pub fn mode_good(mode: u32) -> bool
     0 < mode
 }
 
-// The number that a sheet stores of a mode number: what it stands for, and 0 where a sheet has none.
+// The number that a sheet stores of a mode number: what it stands for, and 0 where a sheet has none. It is no Option, as it is
+// what stands in the header.
 pub fn mode_word(mode: u32) -> u32
     ensures { result ≡ mode_word mode }
 {

@@ -4,7 +4,6 @@ use mathlib.Core.List.{List, [], ◌∷◌, ◌++◌}
 use Prim.Native.Nat.{ℕ, suc, ◌+◌, ◌-◌, ◌*◌, ◌/◌, ◌%◌, ◌≤◌, ◌<◌}
 use native.Mathlib.Omega.{arith}
 use native.Mathlib.Numerals.{add-one}
-use native.Mathlib.Nat.{mul_comm, le-div_iff_mul-le}
 use lib.ListN.{length, get_or, set, get_or-eq_default}
 use lib.Seq.{sets}
 use borrow.Author.Tests.{lt-ltb, le-ltb}
@@ -41,10 +40,6 @@ module _ (f p n : ℕ) where
   pub digits_more : 0 < p → digits_from (suc f) p n ≡ (48 + n / p % 10) ∷ digits_from f (p / 10) n
   unfolding digits_from
   digits_more h = rw (lt-ltb 0 p h)
-
--- ten times a power that is not above n / 10
-pub ten-times : (p n : ℕ) → 1 ≤ p → 10 ≤ n / p → p * 10 ≤ n
-ten-times p n h k = let m = (le-div_iff_mul-le {k = p} {x = 10} {y = n} (omega arith)).0 k in omega (arith, m, mul_comm p 10)
 
 -- the loops' turns
 module _ (i p n t : ℕ) where

@@ -25,33 +25,30 @@ fn top(x: u32) -> u32
     ensures { result ≡ top_from 9 1 x }
 {
     let mut p: u32 = 1;
-    let mut i: u32 = 0;
-    while i < 9 {
+    for _ in 0..9u32 {
         if x / p < 10 {
             return p;
         }
-        p = p * 10;
-        i += 1;
+        p *= 10;
     }
     p
 }
 
-// Stores the digits of x from that of the power p down to the last, and answers the place after them.
+// Stores the digits of x from that of the power p down to the last, and answers the place after them. (No `write!`: the promise is every
+// byte, in room that is lent.)
 fn write_digits(x: u32, p: u32, out: &mut [u8], k: usize) -> usize
     requires { k ≤ 0x4000_0000_0000_0000 }
     ensures { (course out.new result ≡ advanced sets (course out.old k) (digits_from 10 p x)) × (result ≤ k + 10) }
 {
     let mut q = p;
     let mut at = k;
-    let mut i: u32 = 0;
-    while i < 10 {
+    for _ in 0..10u32 {
         if q == 0 {
             return at;
         }
         put_byte(out, at, (48 + x / q % 10) as u8);
-        q = q / 10;
+        q /= 10;
         at += 1;
-        i += 1;
     }
     at
 }
@@ -69,12 +66,10 @@ fn write_more(bytes: &[u8], a: usize, e: usize, out: &mut [u8], k: usize) -> usi
     requires { (a ≤ e) × (e ≤ 0x2_0000_0000) × (k ≤ 0x2000_0000_0000_0000) }
     ensures { (course out.new result ≡ advanced sets (course out.old k) (spaced (gather (word_at bytes.now) a (e - a)))) × (result ≤ k + 11 * (e - a)) }
 {
-    let mut i = a;
     let mut at = k;
-    while i < e {
+    for i in a..e {
         put_byte(out, at, 32);
         at = write_number(word_at(bytes, i), out, at + 1);
-        i += 1;
     }
     at
 }
@@ -129,11 +124,9 @@ fn write_strokes(bytes: &[u8], strokes: usize, points: u32, out: &mut [u8], k: u
     requires { (strokes ≤ most_strokes) × (k ≤ 0x4000_0000_0000) }
     ensures { course out.new result ≡ advanced sets (course out.old k) (lines_of (strokes_of (number_in bytes.now strokes) points (gather (word_at bytes.now) header_words strokes))) }
 {
-    let mut i: usize = 0;
     let mut at = k;
-    while i < strokes {
+    for i in 0..strokes {
         at = write_stroke(bytes, i, strokes, points, out, at);
-        i += 1;
     }
     at
 }

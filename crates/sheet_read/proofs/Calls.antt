@@ -1,4 +1,5 @@
 -- The call as a whole: what its tests grant, and what it then leaves.
+use Rattle.std.specs.Prelude.{Ok}
 use mathlib.Core.Path.{◌≡◌, ◌∙◌}
 use mathlib.Core.Bool.{true, ◌&&◌}
 use mathlib.Core.List.{List, [], ◌∷◌}
@@ -10,7 +11,6 @@ use lib.Dec.{leb}
 use borrow.Author.Tests.{leb-true}
 use Rattle.refusal.specs.Limits.{most_strokes, most_points}
 use Rattle.refusal.specs.Said.{accepted}
-use Rattle.refusal.specs.declared.Verdict.TheVariants.{Accepted}
 use Rattle.path.specs.Strokes.{gather}
 use Rattle.path.specs.Laid.{over}
 use Rattle.path.proofs.Tests.{passed, both}
@@ -45,7 +45,7 @@ pub record Granted (bs : List ℕ) (room start_room : ℕ) : Type 0 where
   pub room_points : point_count bs ≤ room
   pub room_starts : stroke_count bs ≤ start_room
 
-pub granted : (bs : List ℕ) (room start_room : ℕ) → verdict_of bs room start_room ≡ Accepted → Granted bs room start_room
+pub granted : (bs : List ℕ) (room start_room : ℕ) → verdict_of bs room start_room ≡ (Ok tt) → Granted bs room start_room
 unfolding verdict_of is_sheet room_for
 granted bs room start_room h =
     let sheet = passed _ _ _ h in

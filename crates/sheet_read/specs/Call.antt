@@ -1,15 +1,14 @@
 -- Reading a sheet: when it is refused, what it answers, and what it leaves in the lists lent to it.
-use Rattle.std.specs.Prelude.{Bool, ◌&&◌, List, [], ◌∷◌, ℕ, length, leb}
+use Rattle.std.specs.Prelude.{Result, Ok, Bool, ◌&&◌, List, [], ◌∷◌, ℕ, length, leb}
+use Rattle.refusal.specs.declared.Refusal.{Refusal}
 use Rattle.refusal.specs.declared.Refusal.TheVariants.{Room, Sheet}
-use Rattle.refusal.specs.declared.Verdict.{Verdict}
-use Rattle.refusal.specs.declared.Verdict.TheVariants.{Accepted}
+use Rattle.refusal.specs.Refusals.{Verdict}
 use Rattle.refusal.specs.Refusals.{unless}
-use Rattle.refusal.specs.Said.{Said, accepted, refused}
+use Rattle.refusal.specs.Said.{Said, accepted, said_by}
 use Rattle.refusal.specs.Outcome.{Outcome, leaves, outcome}
 use Rattle.path.specs.Laid.{over}
 use Rattle.sheet.specs.Sheets.{mode_in, vertices_in, stroke_count, point_count, starts_in, numbers_in, is_sheet}
 use Rattle.sheet_read.specs.declared.SheetRead.{SheetRead}
-use Rattle.sheet_read.specs.declared.SheetRead.TheVariants as R
 
 -- room for the points and strokes in the header
 unfoldable pub room_for : List ℕ → ℕ → ℕ → Bool
@@ -17,12 +16,11 @@ room_for bs room start_room = leb (point_count bs) room && leb (stroke_count bs)
 
 -- bytes that are no sheet are tested before room
 unfoldable pub verdict_of : List ℕ → ℕ → ℕ → Verdict
-verdict_of bs room start_room = unless (is_sheet bs) Sheet (unless (room_for bs room start_room) Room Accepted)
+verdict_of bs room start_room = unless (is_sheet bs) Sheet (unless (room_for bs room start_room) Room (Ok tt))
 
 -- the answer's number and values: points and starts written, mode and vertices
-abbrev pub said : SheetRead → Said ℕ
-said (R.Wrote mode vertices points starts) = accepted (points ∷ starts ∷ mode ∷ vertices ∷ [])
-said (R.Refused r) = refused r
+abbrev pub said : Result SheetRead Refusal → Said ℕ
+said r = said_by (λ p. p.points ∷ p.starts ∷ p.mode ∷ p.vertices ∷ []) r
 
 pub record Lent : Type 0 where
   pub numbers : List ℕ

@@ -9,23 +9,20 @@ ghost use Rattle.mesh.specs.Meshes.{all_below};
 ghost use Rattle.sheet.specs.Sheets.{header_words, word_at, places_good, strict_from, table_good, header_good, is_sheet};
 ghost use Rattle.sheet_read.specs.Call.{room_for, verdict_of, said, left, read_left};
 
-use path::put_number;
-use refusal::{Refusal, Verdict};
+use path::put;
+use refusal::Refusal;
 use sheet::{
     HEADER_WORDS, MODE, NUMBERS_OFFSET, POINTS, STARTS_OFFSET, STROKES, VERTICES, counts_good,
     mode_good, numbers_from, word_at,
 };
 
-// What reading a sheet answers: its mode and vertices, and how many points and starts were written; or why none were.
-#[derive(Clone, Copy)]
-pub enum SheetRead {
-    Wrote {
-        mode: u32,
-        vertices: u32,
-        points: usize,
-        starts: usize,
-    },
-    Refused(Refusal),
+// What was read of a sheet: its mode and vertices, and how many points and starts were written.
+#[derive(Clone, Copy, Debug, PartialEq, Eq)]
+pub struct SheetRead {
+    pub mode: u32,
+    pub vertices: u32,
+    pub points: usize,
+    pub starts: usize,
 }
 
 // Whether starts and numbers begin where they must, and the bytes end with them.
@@ -65,9 +62,8 @@ fn header_good(bytes: &[u8]) -> bool
 fn strict_from(bytes: &[u8], a: usize, e: usize, s: u32, n: u32) -> bool
     ensures { result ≡ strict_from n s (gather (word_at bytes.now) a (e - a)) }
 {
-    let mut i = a;
     let mut prev = s;
-    while i < e {
+    for i in a..e {
         let t = word_at(bytes, i);
         if t <= prev {
             return false;
@@ -76,7 +72,6 @@ fn strict_from(bytes: &[u8], a: usize, e: usize, s: u32, n: u32) -> bool
             return false;
         }
         prev = t;
-        i += 1;
     }
     true
 }
@@ -103,12 +98,10 @@ fn table_good(bytes: &[u8], strokes: usize, n: u32) -> bool
 fn words_below(bytes: &[u8], a: usize, e: usize, n: u32) -> bool
     ensures { result ≡ all_below n (gather (word_at bytes.now) a (e - a)) }
 {
-    let mut i = a;
-    while i < e {
+    for i in a..e {
         if n <= word_at(bytes, i) {
             return false;
         }
-        i += 1;
     }
     true
 }
@@ -140,16 +133,16 @@ fn room_for(bytes: &[u8], room: usize, start_room: usize) -> bool
 }
 
 // The tests before the call's work: bytes that are no sheet come before missing room. Nothing lent is touched.
-fn read_verdict(bytes: &[u8], room: usize, start_room: usize) -> Verdict
+fn read_verdict(bytes: &[u8], room: usize, start_room: usize) -> Result<(), Refusal>
     ensures { result ≡ verdict_of bytes.now room start_room }
 {
     if !is_sheet(bytes) {
-        return Verdict::Refused(Refusal::Sheet);
+        return Err(Refusal::Sheet);
     }
     if !room_for(bytes, room, start_room) {
-        return Verdict::Refused(Refusal::Room);
+        return Err(Refusal::Room);
     }
-    Verdict::Accepted
+    Ok(())
 }
 
 // Stores the n words from word a on.
@@ -157,32 +150,29 @@ fn copy_words(bytes: &[u8], a: usize, n: usize, out: &mut [u32])
     requires { (a ≤ most_points) × (n ≤ most_points) }
     ensures { out.new ≡ sets out.old 0 (gather (word_at bytes.now) a n) }
 {
-    let mut i: usize = 0;
-    while i < n {
-        put_number(out, i, word_at(bytes, a + i));
-        i += 1;
+    for i in 0..n {
+        put(out, i, word_at(bytes, a + i));
     }
 }
 
 // Reads a sheet into lent lists: its vertex numbers and its starts.
-pub fn read_sheet(bytes: &[u8], out_numbers: &mut [u32], out_starts: &mut [u32]) -> SheetRead
+pub fn read_sheet(
+    bytes: &[u8],
+    out_numbers: &mut [u32],
+    out_starts: &mut [u32],
+) -> Result<SheetRead, Refusal>
     ensures { left (said result) out_numbers.new out_starts.new
         ≡ read_left bytes.now out_numbers.old out_starts.old }
 {
-    let v = read_verdict(bytes, out_numbers.len(), out_starts.len());
-    match v {
-        Verdict::Refused(r) => SheetRead::Refused(r),
-        Verdict::Accepted => {
-            let strokes = word_at(bytes, STROKES);
-            let points = word_at(bytes, POINTS) as usize;
-            copy_words(bytes, HEADER_WORDS, strokes as usize, out_starts);
-            copy_words(bytes, numbers_from(strokes), points, out_numbers);
-            SheetRead::Wrote {
-                mode: word_at(bytes, MODE),
-                vertices: word_at(bytes, VERTICES),
-                points: points,
-                starts: strokes as usize,
-            }
-        }
-    }
+    read_verdict(bytes, out_numbers.len(), out_starts.len())?;
+    let strokes = word_at(bytes, STROKES);
+    let points = word_at(bytes, POINTS) as usize;
+    copy_words(bytes, HEADER_WORDS, strokes as usize, out_starts);
+    copy_words(bytes, numbers_from(strokes), points, out_numbers);
+    Ok(SheetRead {
+        mode: word_at(bytes, MODE),
+        vertices: word_at(bytes, VERTICES),
+        points: points,
+        starts: strokes as usize,
+    })
 }

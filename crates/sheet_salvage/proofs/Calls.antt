@@ -1,4 +1,5 @@
 -- The call as a whole: what its tests grant, what the parts come to, and what it leaves.
+use Rattle.std.specs.Prelude.{Ok}
 use mathlib.Core.Path.{◌≡◌, refl, sym, ap, ◌∙◌}
 use mathlib.Core.Bool.{true, ◌&&◌, cond}
 use mathlib.Core.List.{List, [], ◌∷◌}
@@ -9,7 +10,6 @@ use lib.Seq.{sets}
 use lib.Dec.{leb, eqb}
 use borrow.Author.Tests.{leb-true}
 use Rattle.refusal.specs.Limits.{most_strokes, most_points}
-use Rattle.refusal.specs.declared.Verdict.TheVariants.{Accepted}
 use Rattle.refusal.specs.Refusals.{unless}
 use Rattle.refusal.specs.Said.{Said, accepted}
 use Rattle.byte_words.specs.Bytes.{bytes_all}
@@ -103,7 +103,7 @@ all_told bs a b d e f ea eb ed ee ef = rw (ea, eb, ed, ee, ef)
 
 -- ---- the verdict
 
-pub granted : (strokes points room : ℕ) → kept_verdict strokes points room ≡ Accepted → (strokes ≤ most_strokes) × (size_of strokes points ≤ room)
+pub granted : (strokes points room : ℕ) → kept_verdict strokes points room ≡ (Ok tt) → (strokes ≤ most_strokes) × (size_of strokes points ≤ room)
 unfolding kept_verdict
 granted strokes points room h =
     let a = passed _ _ _ h in

@@ -1,30 +1,28 @@
 -- Salvaging a sheet: when it is refused, what it answers, and what it leaves in the bytes lent to it.
-use Rattle.std.specs.Prelude.{List, [], ◌∷◌, ℕ, length, leb}
+use Rattle.std.specs.Prelude.{Result, Ok, List, [], ◌∷◌, ℕ, length, leb}
 use Rattle.refusal.specs.Limits.{most_strokes}
+use Rattle.refusal.specs.declared.Refusal.{Refusal}
 use Rattle.refusal.specs.declared.Refusal.TheVariants.{Count, Room, Sheet}
-use Rattle.refusal.specs.declared.Verdict.{Verdict}
-use Rattle.refusal.specs.declared.Verdict.TheVariants.{Accepted}
+use Rattle.refusal.specs.Refusals.{Verdict}
 use Rattle.refusal.specs.Refusals.{unless}
-use Rattle.refusal.specs.Said.{Said, accepted, refused}
+use Rattle.refusal.specs.Said.{Said, accepted, said_by}
 use Rattle.refusal.specs.Outcome.{Outcome, leaves, outcome}
 use Rattle.path.specs.Laid.{over, joined}
 use Rattle.sheet.specs.Sheets.{mode_in, vertices_in, sheet_of, size_of}
 use Rattle.sheet_salvage.specs.Salvage.{header_usable, saved_in, offsets_changed, starts_ignored, wild_in, leftovers_in}
 use Rattle.sheet_salvage.specs.declared.Salvaged.{Salvaged}
-use Rattle.sheet_salvage.specs.declared.Salvaged.TheVariants as S
 
 -- of what is kept: too many strokes are tested before room
 unfoldable pub kept_verdict : ℕ → ℕ → ℕ → Verdict
-kept_verdict strokes points room = unless (leb strokes most_strokes) Count (unless (leb (size_of strokes points) room) Room Accepted)
+kept_verdict strokes points room = unless (leb strokes most_strokes) Count (unless (leb (size_of strokes points) room) Room (Ok tt))
 
 -- a header that cannot be gone by is tested first
 unfoldable pub verdict_of : List ℕ → ℕ → Verdict
 verdict_of bs room = unless (header_usable bs) Sheet (kept_verdict (length (saved_in bs)) (length (joined (saved_in bs))) room)
 
 -- the answer's number and values: bytes written, offsets changed, starts ignored, points dropped for their number, leftovers
-abbrev pub said : Salvaged → Said ℕ
-said (S.Wrote bytes offsets starts numbers leftovers) = accepted (bytes ∷ offsets ∷ starts ∷ numbers ∷ leftovers ∷ [])
-said (S.Refused r) = refused r
+abbrev pub said : Result Salvaged Refusal → Said ℕ
+said r = said_by (λ s. s.bytes ∷ s.offsets ∷ s.starts ∷ s.numbers ∷ s.leftovers ∷ []) r
 
 pub record Lent : Type 0 where
   pub bytes : List ℕ

@@ -1,7 +1,7 @@
 // Salvage: a good sheet of what a torn one still holds, and how much was changed for it.
 #![tactic(auto)]
 
-ghost use Rattle.std.specs.Prelude.{◌≡◌, true, ◌&&◌, not, cond, ◌+◌, ◌-◌, ◌*◌, ◌≤◌, length, ltb, eqb};
+ghost use Rattle.std.specs.Prelude.{Ok, ◌≡◌, true, ◌&&◌, not, cond, ◌+◌, ◌-◌, ◌*◌, ◌≤◌, length, ltb, eqb};
 ghost use Rattle.std.proofs.lemmas.List.Edits.{sets};
 ghost use Rattle.refusal.specs.Limits.{most_strokes, most_points};
 ghost use Rattle.path.specs.Strokes.{gather};
@@ -13,24 +13,21 @@ ghost use Rattle.sheet_salvage.specs.InnerScan.{num, keeps, good_of};
 ghost use Rattle.sheet_salvage.specs.Call.{kept_verdict, said, left, salvaged, reported, salvage_left};
 
 use path::Place;
-use refusal::{MOST_POINTS, MOST_STROKES, Refusal, Verdict};
+use refusal::{MOST_POINTS, MOST_STROKES, Refusal};
 use sheet::{
     HEADER_WORDS, MODE, NUMBERS_OFFSET, POINTS, STARTS_OFFSET, STROKES, VERTICES, counts_good,
     mode_good, numbers_from, put_word, word_at, write_header,
 };
 
-// What salvage answers: how many bytes were written, and what was changed for them: offsets, starts ignored, points dropped for
-// their number, points dropped as leftovers; or why nothing was written.
-#[derive(Clone, Copy)]
-pub enum Salvaged {
-    Wrote {
-        bytes: usize,
-        offsets: usize,
-        starts: usize,
-        numbers: usize,
-        leftovers: usize,
-    },
-    Refused(Refusal),
+// What was salvaged: how many bytes were written, and what was changed for them: offsets, starts ignored, points dropped for
+// their number, points dropped as leftovers.
+#[derive(Clone, Copy, Debug, PartialEq, Eq)]
+pub struct Salvaged {
+    pub bytes: usize,
+    pub offsets: usize,
+    pub starts: usize,
+    pub numbers: usize,
+    pub leftovers: usize,
 }
 
 // Whether the header can be gone by, and all the starts that it states are there.
@@ -83,7 +80,8 @@ fn below(x: usize, y: usize) -> usize
     0
 }
 
-// 1 where there is a point at place i, before e, and its number is below n.
+// 1 where there is a point at place i, before e, and its number is below n. (A number and no bool, here and below: they are added up,
+// and a branch would go by chance.)
 fn good_one(number: u32, n: u32, i: usize, e: usize) -> usize
     ensures { (result ≡ num (ltb number n && ltb i e)) × (result ≤ 1) }
 {
@@ -123,13 +121,12 @@ fn count_stroke(bytes: &[u8], k: usize, a: usize, e: usize, n: u32, at: Tally) -
     ensures points_le_e { (result.kept.points ≤ e) × (result.kept.starts ≤ e) × (result.good ≤ e) }
 {
     let single = below(e - a, 2);
-    let mut i = a;
     let mut points = at.kept.points;
     let mut starts = at.kept.starts;
     let mut good = at.good;
     let mut prev: usize = 0;
     let mut here = good_one(word_at(bytes, k + a), n, a, e);
-    while i < e {
+    for i in a..e {
         let next = good_one(word_at(bytes, k + i + 1), n, i + 1, e);
         let keep = kept_one(single, prev, here, next);
         points += keep;
@@ -137,7 +134,6 @@ fn count_stroke(bytes: &[u8], k: usize, a: usize, e: usize, n: u32, at: Tally) -
         good += here;
         prev = here;
         here = next;
-        i += 1;
     }
     Tally {
         kept: Place {
@@ -185,7 +181,6 @@ fn count_strokes(bytes: &[u8], strokes: u32, m: usize, n: u32) -> Tally
 {
     let k = numbers_from(strokes);
     let mut a: usize = 0;
-    let mut i: usize = 1;
     let mut p = Tally {
         kept: Place {
             points: 0,
@@ -194,11 +189,10 @@ fn count_strokes(bytes: &[u8], strokes: u32, m: usize, n: u32) -> Tally
         good: 0,
         ignored: 0,
     };
-    while i <= strokes as usize {
+    for i in 1..strokes as usize + 1 {
         let e = end_of(bytes, i, strokes, a, m);
         p = count_stroke(bytes, k, a, e, n, p);
         a = e;
-        i += 1;
     }
     p
 }
@@ -255,13 +249,12 @@ fn write_stroke(
 {
     let single = below(e - a, 2);
     let base = HEADER_WORDS + total.starts;
-    let mut i = a;
     let mut points = at.points;
     let mut starts = at.starts;
     let mut prev: usize = 0;
     let mut w = word_at(bytes, k + a);
     let mut here = good_one(w, n, a, e);
-    while i < e {
+    for i in a..e {
         let v = word_at(bytes, k + i + 1);
         let next = good_one(v, n, i + 1, e);
         let keep = kept_one(single, prev, here, next);
@@ -272,7 +265,6 @@ fn write_stroke(
         prev = here;
         here = next;
         w = v;
-        i += 1;
     }
     Place {
         points: points,
@@ -289,16 +281,14 @@ fn write_strokes(bytes: &[u8], strokes: u32, m: usize, n: u32, out: &mut [u8], t
 {
     let k = numbers_from(strokes);
     let mut a: usize = 0;
-    let mut i: usize = 1;
     let mut p = Place {
         points: 0,
         starts: 0,
     };
-    while i <= strokes as usize {
+    for i in 1..strokes as usize + 1 {
         let e = end_of(bytes, i, strokes, a, m);
         p = write_stroke(bytes, k, a, e, n, out, total, p);
         a = e;
-        i += 1;
     }
 }
 
@@ -313,17 +303,17 @@ fn stroked(strokes: u32, m: usize) -> usize
 }
 
 // The tests of what is kept: too many strokes, then room.
-fn kept_verdict(strokes: usize, points: usize, room: usize) -> Verdict
+fn kept_verdict(strokes: usize, points: usize, room: usize) -> Result<(), Refusal>
     requires { (strokes ≤ most_points) × (points ≤ most_points) }
     ensures { result ≡ kept_verdict strokes points room }
 {
     if MOST_STROKES < strokes {
-        return Verdict::Refused(Refusal::Count);
+        return Err(Refusal::Count);
     }
     if room < 4 * (numbers_from(strokes as u32) + points) {
-        return Verdict::Refused(Refusal::Room);
+        return Err(Refusal::Room);
     }
-    Verdict::Accepted
+    Ok(())
 }
 
 // The offsets that are written other than stated, in a sheet of so many strokes.
@@ -358,12 +348,12 @@ fn write_kept(bytes: &[u8], m: usize, kept: Place, out: &mut [u8])
 fn report(bytes: &[u8], t: Tally) -> Salvaged
     requires bytes_value { (header_usable bytes.now ≡ true) × (t.kept ≡ after (record { points = 0; starts = 0 }) (saved_in bytes.now)) × (length (saved_in bytes.now) ≤ most_strokes) }
     requires bytes_value_2 { (t.good + wild_in bytes.now ≡ stroked_count bytes.now) × (t.ignored ≡ ignored_by (taken_count bytes.now) (stroke_count bytes.now) (word_at bytes.now) 1 0) × (t.ignored ≤ most_strokes) }
-    ensures { said result ≡ reported bytes.now }
+    ensures { said (Ok result) ≡ reported bytes.now }
 {
     let strokes = word_at(bytes, STROKES);
     let m = taken(bytes);
     let numbers = stroked(strokes, m) - t.good;
-    Salvaged::Wrote {
+    Salvaged {
         bytes: 4 * (numbers_from(t.kept.starts as u32) + t.kept.points),
         offsets: offsets(bytes, t.kept.starts),
         starts: ignored(bytes, strokes, m, t.ignored),
@@ -373,28 +363,23 @@ fn report(bytes: &[u8], t: Tally) -> Salvaged
 }
 
 // Salvages a sheet whose header can be gone by: one pass counts, and where there is room for what is kept a second stores it.
-fn salvage_usable(bytes: &[u8], out: &mut [u8]) -> Salvaged
+fn salvage_usable(bytes: &[u8], out: &mut [u8]) -> Result<Salvaged, Refusal>
     requires { header_usable bytes.now ≡ true }
     ensures { left (said result) out.new ≡ salvage_left bytes.now out.old }
 {
     let m = taken(bytes);
     let t = count_strokes(bytes, word_at(bytes, STROKES), m, word_at(bytes, VERTICES));
-    let v = kept_verdict(t.kept.starts, t.kept.points, out.len());
-    match v {
-        Verdict::Refused(r) => Salvaged::Refused(r),
-        Verdict::Accepted => {
-            write_kept(bytes, m, t.kept, out);
-            report(bytes, t)
-        }
-    }
+    kept_verdict(t.kept.starts, t.kept.points, out.len())?;
+    write_kept(bytes, m, t.kept, out);
+    Ok(report(bytes, t))
 }
 
 // Writes a good sheet of what the bytes still hold of one, and says what was changed for it.
-pub fn salvage_sheet(bytes: &[u8], out: &mut [u8]) -> Salvaged
+pub fn salvage_sheet(bytes: &[u8], out: &mut [u8]) -> Result<Salvaged, Refusal>
     ensures { left (said result) out.new ≡ salvage_left bytes.now out.old }
 {
     if !header_usable(bytes) {
-        return Salvaged::Refused(Refusal::Sheet);
+        return Err(Refusal::Sheet);
     }
     salvage_usable(bytes, out)
 }

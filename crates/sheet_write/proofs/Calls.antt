@@ -1,4 +1,5 @@
 -- The call as a whole: what its tests grant, what the parts come to, and what it leaves.
+use Rattle.std.specs.Prelude.{Ok}
 use mathlib.Core.Path.{◌≡◌, sym, ap, ◌∙◌}
 use mathlib.Core.Bool.{true}
 use mathlib.Core.List.{List, [], ◌∷◌, ◌++◌}
@@ -10,7 +11,6 @@ use lib.Dec.{leb}
 use borrow.Author.Tests.{leb-true}
 use Rattle.refusal.specs.Limits.{most_strokes, most_points}
 use Rattle.refusal.specs.Said.{accepted}
-use Rattle.refusal.specs.declared.Verdict.TheVariants.{Accepted}
 use Rattle.path.specs.Strokes.{good_starts, number_at, strokes_in}
 use Rattle.path.specs.Laid.{over, non_empty}
 use Rattle.path.proofs.Tests.{passed}
@@ -36,7 +36,7 @@ pub record Granted (ns ss : List ℕ) (room : ℕ) : Type 0 where
   pub points : length ns ≤ most_points
   pub fits : size_of (length (kept_from (length ns) ss)) (length ns) ≤ room
 
-pub granted : (mode vertices : ℕ) (ns ss : List ℕ) (room : ℕ) → verdict_of mode vertices ns ss room ≡ Accepted → Granted ns ss room
+pub granted : (mode vertices : ℕ) (ns ss : List ℕ) (room : ℕ) → verdict_of mode vertices ns ss room ≡ (Ok tt) → Granted ns ss room
 unfolding verdict_of
 granted mode vertices ns ss room h =
     let shape = passed _ _ _ h in

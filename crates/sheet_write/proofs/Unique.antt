@@ -1,21 +1,16 @@
 -- What the contract of `write_sheet` permits is one answer and one content of the bytes lent.
-use mathlib.Core.Path.{◌≡◌, sym, ap}
+use mathlib.Core.Path.{◌≡◌}
 use mathlib.Core.List.{List}
 use Prim.Native.Nat.{ℕ}
+use Rattle.std.specs.Prelude.{Result}
+use Rattle.refusal.specs.declared.Refusal.{Refusal}
 use Rattle.refusal.specs.One.{One}
-use Rattle.refusal.proofs.Unique.{one-refusal, never_both, same-values}
+use Rattle.refusal.specs.Said.{value_said}
+use Rattle.refusal.proofs.Unique.{one-value}
 use Rattle.refusal.proofs.Outcomes.{one-outcome}
-use Rattle.sheet_write.specs.declared.SheetWritten.{SheetWritten}
-use Rattle.sheet_write.specs.declared.SheetWritten.TheVariants.{Wrote, Refused}
-use Rattle.sheet_write.specs.Call.{said, lent, left, write_left}
+use Rattle.sheet_write.specs.Call.{lent, left, write_left}
 
-told : (r t : SheetWritten) → said r ≡ said t → r ≡ t
-told (Wrote n) (Wrote m) e = let h = same-values e in cc
-told (Wrote n) (Refused t) e = absurd (never_both _ t e)
-told (Refused r) (Wrote m) e = absurd (never_both _ r (sym e))
-told (Refused r) (Refused t) e = ap Refused (one-refusal r t e)
-
-pub one-write_sheet : (mode vertices : ℕ) (ns ss out : List ℕ) → One (SheetWritten × List ℕ) (λ o. left (said o.0) o.1 ≡ write_left mode vertices ns ss out)
+pub one-write_sheet : (mode vertices : ℕ) (ns ss out : List ℕ) → One (Result ℕ Refusal × List ℕ) (λ o. left (value_said o.0) o.1 ≡ write_left mode vertices ns ss out)
 one-write_sheet mode vertices ns ss out r t p q =
-    let e = one-outcome said told (write_left mode vertices ns ss out) (r.0, lent r.1) (t.0, lent t.1) p q in
+    let e = one-outcome value_said one-value (write_left mode vertices ns ss out) (r.0, lent r.1) (t.0, lent t.1) p q in
     λ i. ((e i).0, (e i).1.bytes)

@@ -1,4 +1,5 @@
 -- What an accepted call writes is a sheet, from which mode, vertices and the strokes that have points are read back.
+use Rattle.std.specs.Prelude.{Ok}
 use mathlib.Core.Path.{◌≡◌, ap}
 use mathlib.Core.Bool.{true}
 use mathlib.Core.List.{List}
@@ -7,7 +8,6 @@ use native.Mathlib.Omega.{arith}
 use lib.ListN.{length}
 use borrow.Author.Tests.{le-leb}
 use Rattle.refusal.specs.Limits.{most_vertices, most_strokes, most_points}
-use Rattle.refusal.specs.declared.Verdict.TheVariants.{Accepted}
 use Rattle.path.specs.Strokes.{number_at, strokes_in}
 use Rattle.path.specs.Laid.{non_empty, joined, starts_from}
 use Rattle.path.proofs.Tests.{passed}
@@ -21,7 +21,7 @@ use Rattle.sheet.proofs.Back.{Readable, sheet_back, read_back}
 use Rattle.sheet_write.specs.Call.{verdict_of}
 use Rattle.sheet_write.proofs.Calls.{granted}
 
-module _ (mode vertices : ℕ) (ns ss : List ℕ) (room : ℕ) (h : verdict_of mode vertices ns ss room ≡ Accepted) where
+module _ (mode vertices : ℕ) (ns ss : List ℕ) (room : ℕ) (h : verdict_of mode vertices ns ss room ≡ (Ok tt)) where
   abbrev All : List (List ℕ)
   All = strokes_in ns ss
 

@@ -1,17 +1,15 @@
 -- Writing a sheet: when it is refused, what it answers, and what it leaves in the bytes lent to it.
+use Rattle.std.specs.Prelude.{Ok}
 use Rattle.std.specs.Prelude.{List, [], ◌∷◌, ℕ, length, leb, ltb}
 use Rattle.refusal.specs.declared.Refusal.TheVariants.{Shape, Count, Vertex, Number, Room}
-use Rattle.refusal.specs.declared.Verdict.{Verdict}
-use Rattle.refusal.specs.declared.Verdict.TheVariants.{Accepted}
+use Rattle.refusal.specs.Refusals.{Verdict}
 use Rattle.refusal.specs.Refusals.{unless}
-use Rattle.refusal.specs.Said.{Said, accepted, refused}
+use Rattle.refusal.specs.Said.{Said, accepted}
 use Rattle.refusal.specs.Outcome.{Outcome, leaves, outcome}
 use Rattle.path.specs.Strokes.{good_starts, strokes_in}
 use Rattle.path.specs.Laid.{over, non_empty}
 use Rattle.mesh.specs.Meshes.{all_below}
 use Rattle.sheet.specs.Sheets.{mode_word, sheet_of, size_of, counts_good}
-use Rattle.sheet_write.specs.declared.SheetWritten.{SheetWritten}
-use Rattle.sheet_write.specs.declared.SheetWritten.TheVariants as W
 
 -- the lowest refusal that applies: a table of starts, the limits, numbers below the vertex count, a mode, and room for the whole sheet
 unfoldable pub verdict_of : ℕ → ℕ → List ℕ → List ℕ → ℕ → Verdict
@@ -21,12 +19,7 @@ verdict_of mode vertices ns ss room =
     (unless (all_below vertices ns) Vertex
     (unless (ltb 0 (mode_word mode)) Number
     (unless (leb (size_of (length (non_empty (strokes_in ns ss))) (length ns)) room) Room
-    Accepted))))
-
--- the answer's number and values: bytes written
-abbrev pub said : SheetWritten → Said ℕ
-said (W.Wrote n) = accepted (n ∷ [])
-said (W.Refused r) = refused r
+    (Ok tt)))))
 
 pub record Lent : Type 0 where
   pub bytes : List ℕ

@@ -4,25 +4,16 @@
 ghost use Rattle.std.specs.Prelude.{◌≡◌, ◌+◌, ◌*◌, ◌<◌, ◌≤◌, length, get_or, leb, ltb};
 ghost use Rattle.std.proofs.lemmas.List.Edits.{sets};
 ghost use Rattle.refusal.specs.Limits.{most_strokes, most_points};
+ghost use Rattle.refusal.specs.Said.{value_said};
 ghost use Rattle.byte_words.specs.Bytes.{bytes_all};
 ghost use Rattle.sheet.specs.Sheets.{header_words, numbers_from, mode_word, header_of, words_of, size_of};
 ghost use Rattle.sheet.specs.InnerKept.{kept_at, kept_from};
-ghost use Rattle.sheet_write.specs.Call.{verdict_of, said, left, write_left};
+ghost use Rattle.sheet_write.specs.Call.{verdict_of, left, write_left};
 
 use mesh::all_below;
 use path::{end_of, rising};
-use refusal::{Refusal, Verdict};
-use sheet::{
-    HEADER_WORDS, MODE, NUMBERS_OFFSET, POINTS, STARTS_OFFSET, STROKES, VERTICES, counts_good,
-    mode_word, numbers_from, put_word,
-};
-
-// What writing a sheet answers: how many bytes were written, or why none were.
-#[derive(Clone, Copy)]
-pub enum SheetWritten {
-    Wrote { bytes: usize },
-    Refused(Refusal),
-}
+use refusal::Refusal;
+use sheet::{HEADER_WORDS, counts_good, mode_word, numbers_from, put_word, write_header};
 
 // Whether stroke i has points.
 fn has_points(starts: &[u32], i: usize, n: usize) -> bool
@@ -38,10 +29,7 @@ fn present(starts: &[u32], i: usize, n: usize) -> usize
     ensures value { result ≡ length (kept_at n starts.now i) }
     ensures upper_bound { result ≤ 1 }
 {
-    if has_points(starts, i, n) {
-        return 1;
-    }
-    0
+    has_points(starts, i, n) as usize
 }
 
 // How many strokes have points.
@@ -50,10 +38,8 @@ fn kept(starts: &[u32], n: usize) -> usize
     ensures upper_bound { result ≤ length starts.now }
 {
     let mut k: usize = 0;
-    let mut i: usize = 0;
-    while i < starts.len() {
+    for i in 0..starts.len() {
         k += present(starts, i, n);
-        i += 1;
     }
     k
 }
@@ -78,10 +64,8 @@ fn write_starts(starts: &[u32], n: usize, out: &mut [u8]) -> usize
     ensures value { (result ≡ numbers_from (length (kept_from n starts.now))) × (result ≤ numbers_from most_strokes) }
 {
     let mut k: usize = HEADER_WORDS;
-    let mut i: usize = 0;
-    while i < starts.len() {
+    for i in 0..starts.len() {
         k = put_start(starts, i, n, out, k);
-        i += 1;
     }
     k
 }
@@ -91,24 +75,9 @@ fn write_numbers(numbers: &[u32], out: &mut [u8], k: usize)
     requires { (length numbers.now ≤ most_points) × (k ≤ numbers_from most_strokes) }
     ensures { out.new ≡ sets out.old (k * 4) (bytes_all numbers.now) }
 {
-    let mut i: usize = 0;
-    while i < numbers.len() {
-        put_word(out, k + i, numbers[i]);
-        i += 1;
+    for (i, x) in numbers.iter().enumerate() {
+        put_word(out, k + i, *x);
     }
-}
-
-// Stores the header: counts, and the offsets of starts and numbers.
-fn write_header(out: &mut [u8], mode: u32, vertices: u32, strokes: u32, points: u32)
-    requires { strokes ≤ most_strokes }
-    ensures { out.new ≡ sets out.old 0 (bytes_all (header_of mode vertices strokes points)) }
-{
-    put_word(out, MODE, mode);
-    put_word(out, VERTICES, vertices);
-    put_word(out, STROKES, strokes);
-    put_word(out, POINTS, points);
-    put_word(out, STARTS_OFFSET, (4 * HEADER_WORDS) as u32);
-    put_word(out, NUMBERS_OFFSET, (4 * numbers_from(strokes)) as u32);
 }
 
 // Whether the sheet of n numbers fits so many bytes.
@@ -120,25 +89,31 @@ fn fits(starts: &[u32], n: usize, room: usize) -> bool
 }
 
 // The tests before the call's work: the lowest refusal that applies. Nothing lent is touched.
-fn write_verdict(mode: u32, vertices: u32, numbers: &[u32], starts: &[u32], room: usize) -> Verdict
+fn write_verdict(
+    mode: u32,
+    vertices: u32,
+    numbers: &[u32],
+    starts: &[u32],
+    room: usize,
+) -> Result<(), Refusal>
     ensures { result ≡ verdict_of mode vertices numbers.now starts.now room }
 {
     if !rising(starts, numbers.len()) {
-        return Verdict::Refused(Refusal::Shape);
+        return Err(Refusal::Shape);
     }
     if !counts_good(vertices as usize, starts.len(), numbers.len()) {
-        return Verdict::Refused(Refusal::Count);
+        return Err(Refusal::Count);
     }
     if !all_below(numbers, vertices as usize) {
-        return Verdict::Refused(Refusal::Vertex);
+        return Err(Refusal::Vertex);
     }
     if mode_word(mode) == 0 {
-        return Verdict::Refused(Refusal::Number);
+        return Err(Refusal::Number);
     }
     if !fits(starts, numbers.len(), room) {
-        return Verdict::Refused(Refusal::Room);
+        return Err(Refusal::Room);
     }
-    Verdict::Accepted
+    Ok(())
 }
 
 // Stores header, starts and numbers, and answers how many bytes they are.
@@ -162,15 +137,9 @@ pub fn write_sheet(
     numbers: &[u32],
     starts: &[u32],
     out: &mut [u8],
-) -> SheetWritten
-    ensures { left (said result) out.new ≡ write_left mode vertices numbers.now starts.now out.old }
+) -> Result<usize, Refusal>
+    ensures { left (value_said result) out.new ≡ write_left mode vertices numbers.now starts.now out.old }
 {
-    let v = write_verdict(mode, vertices, numbers, starts, out.len());
-    match v {
-        Verdict::Refused(r) => SheetWritten::Refused(r),
-        Verdict::Accepted => {
-            let n = write_all(mode, vertices, numbers, starts, out);
-            SheetWritten::Wrote { bytes: n }
-        }
-    }
+    write_verdict(mode, vertices, numbers, starts, out.len())?;
+    Ok(write_all(mode, vertices, numbers, starts, out))
 }

@@ -66,7 +66,8 @@ fn pattern_good(pattern: u32) -> bool
     pattern % 0x8000_0000 <= MOST_PATTERN
 }
 
-// Whether the coordinates of corner i are within their bound; past the end they are.
+// Whether the coordinates of corner i are within their bound; past the end they are. (Not by `corner_in`: it compares patterns, and makes
+// no f64 of what a refused file holds.)
 pub fn corner_good(bytes: &[u8], i: usize) -> bool
     ensures { result ≡ corner_good bytes.now i }
 {
@@ -88,10 +89,8 @@ pub fn corner_good(bytes: &[u8], i: usize) -> bool
 fn clear_header(out: &mut [u8])
     ensures { out.new ≡ sets out.old 0 (zeros header_bytes) }
 {
-    let mut i: usize = 0;
-    while i < HEADER_BYTES {
+    for i in 0..HEADER_BYTES {
         put_byte(out, i, 0);
-        i += 1;
     }
 }
 

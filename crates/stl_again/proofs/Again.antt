@@ -15,8 +15,7 @@ use Rattle.vector.specs.declared.Vector.{Vector}
 use Rattle.path.specs.Tests.{coordinate_good, coordinates_good}
 use Rattle.path.proofs.Tests.{both, split}
 use Rattle.mesh.specs.Meshes.{gathered, all_below}
-use Rattle.mesh_weld.specs.declared.Found.{Found}
-use Rattle.mesh_weld.specs.declared.Found.TheVariants.{At, Nothing}
+use Rattle.std.specs.Prelude.{Option, Some, None}
 use Rattle.mesh_weld.specs.Weld.{find, Merged, join_as, join, weld_to, weld_of}
 use Rattle.mesh_weld.proofs.Finds.{find-below}
 use Rattle.stl_again.proofs.Meets.{Meets, find_none, find-only, meets_turned, meets_own}
@@ -72,10 +71,10 @@ weld_last a v n w l e = rw (weld_front a (numbers v) n (omega arith), point_last
 abbrev Apart : Merged → Type 0
 Apart w = (u v : ℕ) → u < v → v < w.count → Meets (point_at w.vertices v) (point_at w.vertices u) → ⊥
 
-apart-join : (w : Merged) (p : Vector) (f : Found) → length w.vertices ≡ w.count * 3 → Apart w → find w.vertices w.count p ≡ f → Apart (join_as w p f)
+apart-join : (w : Merged) (p : Vector) (f : Option ℕ) → length w.vertices ≡ w.count * 3 → Apart w → find w.vertices w.count p ≡ f → Apart (join_as w p f)
 unfolding join_as
-apart-join w p (At i) l a e = a
-apart-join w p Nothing l a e = λ u v g h m.
+apart-join w p (Some i) l a e = a
+apart-join w p None l a e = λ u v g h m.
     let vs = w.vertices in
     let k = w.count in
     let first = point_front vs (numbers p) u (omega arith) in
@@ -99,21 +98,21 @@ only w a u v k l m =
 -- ---- the corner n of the mesh, where those before gave w again
 module _ (w : Merged) (n : ℕ) (c : Counts w n) (a : Apart w) (g : all_of coordinate_good w.vertices ≡ true) where
   -- a vertex's own point finds it
-  find-own : (v : ℕ) → v < w.count → find w.vertices w.count (point_at w.vertices v) ≡ At v
+  find-own : (v : ℕ) → v < w.count → find w.vertices w.count (point_at w.vertices v) ≡ Some v
   find-own v l =
       let p = point_at w.vertices v in
       let h = point_has coordinate_good w.vertices v g (omega (arith, c.wide)) in
       find-only w.vertices w.count p v l (meets_own p h.0 h.1 h.2) (λ u k m. only w a u v k l m)
 
-  again_join : (p : Vector) (f : Found) → weld_to (gathered w.vertices w.indices) n ≡ w → find w.vertices w.count p ≡ f
+  again_join : (p : Vector) (f : Option ℕ) → weld_to (gathered w.vertices w.indices) n ≡ w → find w.vertices w.count p ≡ f
       → weld_to (gathered (join_as w p f).vertices (join_as w p f).indices) (suc n) ≡ join_as w p f
   unfolding join_as join gathered
-  again_join p (At v) h e =
+  again_join p (Some v) h e =
       let b = point_at w.vertices v in
       ap (λ (cs : List Float). weld_to cs (suc n)) (gathered-append w.vertices w.indices (v ∷ []))
       ∙ weld_last (gathered w.vertices w.indices) b n w (length-gathered w.vertices w.indices ∙ ap (λ (m : ℕ). m * 3) c.long) h
       ∙ ap (join_as w b) (find-own v (find-below w.vertices w.count p v e))
-  again_join p Nothing h e =
+  again_join p None h e =
       ap (λ (cs : List Float). weld_to cs (suc n)) (gathered-last w.vertices p w.count w.indices c.wide c.low)
       ∙ weld_last (gathered w.vertices w.indices) p n w (length-gathered w.vertices w.indices ∙ ap (λ (m : ℕ). m * 3) c.long) h
       ∙ ap (join_as w p) e

@@ -18,8 +18,7 @@ use Rattle.vector.specs.Vectors.{distance_squared_of}
 use Rattle.vector.proofs.Zeros.{Within, within, under, abs_round, add-within, mul-within, none, own_sub}
 use Rattle.path.specs.Tests.{most_coordinate, coordinate_good}
 use Rattle.path.proofs.Tests.{split}
-use Rattle.mesh_weld.specs.declared.Found.{Found}
-use Rattle.mesh_weld.specs.declared.Found.TheVariants.{At, Nothing}
+use Rattle.std.specs.Prelude.{Option, Some, None}
 use Rattle.mesh_weld.specs.Weld.{near, or_else, oldest, find}
 use Rattle.mesh_weld.specs.InnerTable.{key, Beside}
 use Rattle.mesh_weld.proofs.Finds.{hits, look_in, three_of, find-by, find-below}
@@ -33,49 +32,49 @@ pub record Meets (p v : Vector) : Type 0 where
   pub z : Beside (key p.z) (key v.z)
 
 -- ---- what is found of several, and of numbers
-or_at : (f g : Found) (i : ℕ) → or_else f g ≡ At i → (f ≡ At i) ⊎ (g ≡ At i)
+or_at : (f g : Option ℕ) (i : ℕ) → or_else f g ≡ Some i → (f ≡ Some i) ⊎ (g ≡ Some i)
 unfolding or_else
-or_at (At j) g i e = inl e
-or_at Nothing g i e = inr e
+or_at (Some j) g i e = inl e
+or_at None g i e = inr e
 
-never : (i : ℕ) → At i ≡ Nothing → ⊥
+never : (i : ℕ) → Some i ≡ None → ⊥
 never i e = let o : ◌≡◌ {A = ℕ} 0 1 = cc in omega arith
 
-or_none : (f g : Found) → or_else f g ≡ Nothing → (f ≡ Nothing) × (g ≡ Nothing)
+or_none : (f g : Option ℕ) → or_else f g ≡ None → (f ≡ None) × (g ≡ None)
 unfolding or_else
-or_none (At j) g e = absurd (never j e)
-or_none Nothing g e = (refl, e)
+or_none (Some j) g e = absurd (never j e)
+or_none None g e = (refl, e)
 
-picked : (t : Bool) (k i : ℕ) → cond t (At k) Nothing ≡ At i → (t ≡ true) × (k ≡ i)
+picked : (t : Bool) (k i : ℕ) → cond t (Some k) None ≡ Some i → (t ≡ true) × (k ≡ i)
 picked true k i e = (refl, cc)
 picked false k i e = absurd (never i (sym e))
 
-passed_over : (t : Bool) (k : ℕ) → cond t (At k) Nothing ≡ Nothing → t ≡ false
+passed_over : (t : Bool) (k : ℕ) → cond t (Some k) None ≡ None → t ≡ false
 passed_over true k e = absurd (never k e)
 passed_over false k e = refl
 
-oldest-at : (q : ℕ → Bool) (k i : ℕ) → oldest q k ≡ At i → q i ≡ true
+oldest-at : (q : ℕ → Bool) (k i : ℕ) → oldest q k ≡ Some i → q i ≡ true
 unfolding oldest
 oldest-at q zero i e = absurd (never i (sym e))
 oldest-at q (suc k) i e =
-    ⊎_elim (oldest-at q k i) (λ b. let o = picked (q k) k i b in ap q (sym o.1) ∙ o.0) (or_at (oldest q k) (cond (q k) (At k) Nothing) i e)
+    ⊎_elim (oldest-at q k i) (λ b. let o = picked (q k) k i b in ap q (sym o.1) ∙ o.0) (or_at (oldest q k) (cond (q k) (Some k) None) i e)
 
-oldest-none : (q : ℕ → Bool) (k i : ℕ) → oldest q k ≡ Nothing → i < k → q i ≡ false
+oldest-none : (q : ℕ → Bool) (k i : ℕ) → oldest q k ≡ None → i < k → q i ≡ false
 unfolding oldest
 oldest-none q zero i e l = absurd (omega arith)
 oldest-none q (suc k) i e l =
-    let a = or_none (oldest q k) (cond (q k) (At k) Nothing) e in
+    let a = or_none (oldest q k) (cond (q k) (Some k) None) e in
     ⊎_elim (λ h. let o : i ≡ k = omega arith in ap q o ∙ passed_over (q k) k a.1) (oldest-none q k i a.0) (split k i)
 
 -- ---- three cells: what is found is found in one of them, and where nothing is found each has nothing
-three-at : (Q : ℕ → Type 0) (f : ℕ → Found) (x : ℕ) → ((w : ℕ) → Beside x w → (i : ℕ) → f w ≡ At i → Q i) → (i : ℕ) → three_of f x ≡ At i → Q i
+three-at : (Q : ℕ → Type 0) (f : ℕ → Option ℕ) (x : ℕ) → ((w : ℕ) → Beside x w → (i : ℕ) → f w ≡ Some i → Q i) → (i : ℕ) → three_of f x ≡ Some i → Q i
 unfolding three_of
 three-at Q f x h i e =
     ⊎_elim (h (x - 1) (record { low = omega arith; high = omega arith }) i)
     (λ r. ⊎_elim (h x (record { low = omega arith; high = omega arith }) i) (h (x + 1) (record { low = omega arith; high = omega arith }) i) (or_at (f x) (f (x + 1)) i r))
     (or_at (f (x - 1)) (or_else (f x) (f (x + 1))) i e)
 
-three-none : (f : ℕ → Found) (x w : ℕ) → Beside x w → three_of f x ≡ Nothing → f w ≡ Nothing
+three-none : (f : ℕ → Option ℕ) (x w : ℕ) → Beside x w → three_of f x ≡ None → f w ≡ None
 unfolding three_of
 three-none f x w b e =
     let a = or_none (f (x - 1)) (or_else (f x) (f (x + 1))) e in
@@ -96,7 +95,7 @@ met p v a b c x y z h =
     }
 
 module _ (vs : List Float) (k : ℕ) (p : Vector) where
-  find_at : (i : ℕ) → find vs k p ≡ At i → Meets p (point_at vs i)
+  find_at : (i : ℕ) → find vs k p ≡ Some i → Meets p (point_at vs i)
   unfolding look_in
   find_at i e =
       let Q : ℕ → Type 0 = λ j. Meets p (point_at vs j) in
@@ -106,7 +105,7 @@ module _ (vs : List Float) (k : ℕ) (p : Vector) where
       (λ c z j h. met p (point_at vs j) a b c x y z (oldest-at (λ i. hits p a b c (point_at vs i)) k j h))))
       i (find-by vs k p (key p.x) (key p.y) (key p.z) refl refl refl ∙ e)
 
-  pub find_none : find vs k p ≡ Nothing → (i : ℕ) → i < k → Meets p (point_at vs i) → ⊥
+  pub find_none : find vs k p ≡ None → (i : ℕ) → i < k → Meets p (point_at vs i) → ⊥
   unfolding look_in
   find_none e i l m =
       let v = point_at vs i in
@@ -119,12 +118,12 @@ module _ (vs : List Float) (k : ℕ) (p : Vector) where
       ∙ oldest-none (λ j. hits p (key v.x) (key v.y) (key v.z) (point_at vs j)) k i c l)
 
   -- the only vertex that meets p is found
-  pub find-only : (v : ℕ) → v < k → Meets p (point_at vs v) → ((u : ℕ) → u < k → Meets p (point_at vs u) → u ≡ v) → find vs k p ≡ At v
+  pub find-only : (v : ℕ) → v < k → Meets p (point_at vs v) → ((u : ℕ) → u < k → Meets p (point_at vs u) → u ≡ v) → find vs k p ≡ Some v
   find-only v l m only = go (find vs k p) refl
     where
-      go : (f : Found) → find vs k p ≡ f → f ≡ At v
-      go (At i) e = let o : i ≡ v = only i (find-below vs k p i e) (find_at i e) in cc
-      go Nothing e = absurd (find_none e v l m)
+      go : (f : Option ℕ) → find vs k p ≡ f → f ≡ Some v
+      go (Some i) e = let o : i ≡ v = only i (find-below vs k p i e) (find_at i e) in cc
+      go None e = absurd (find_none e v l m)
 
 -- ---- a difference turned round has the same square
 square-abs : (x : Float) → square x ≡ square (abs_of x)

@@ -1,4 +1,5 @@
 -- What was written is read as the weld of the corners that were written; what was read can be written, and read again is the same mesh.
+use Rattle.std.specs.Prelude.{Ok}
 use mathlib.Core.Path.{◌≡◌, refl, sym, ap, ◌∙◌}
 use mathlib.Core.Bool.{Bool, true, not, ◌&&◌}
 use mathlib.Core.List.{List, [], ◌∷◌}
@@ -12,7 +13,6 @@ use Rattle.refusal.specs.Limits.{most_faces, most_vertices}
 use Rattle.refusal.specs.Said.{accepted}
 use Rattle.refusal.specs.Refusals.{unless}
 use Rattle.refusal.specs.Outcome.{Outcome, leaves}
-use Rattle.refusal.specs.declared.Verdict.TheVariants.{Accepted}
 use Rattle.refusal.proofs.Unique.{same-values}
 use Rattle.refusal.proofs.Outcomes.{accept, was_accepted}
 use Rattle.single.specs.Singles.{is_single}
@@ -26,12 +26,11 @@ use Rattle.mesh.specs.Meshes.{gathered, shaped_of, counted_of, all_below}
 use Rattle.stl.specs.Files.{face_numbers, size_of, place_of, is_stl, coordinate_in, coordinates_in, stl_of, all_single}
 use Rattle.stl.proofs.Back.{is_stl_lem, coordinates_are}
 use Rattle.stl_write.specs.Call as W
-use Rattle.stl_write.specs.declared.StlWritten.TheVariants as stl-written
+use Rattle.refusal.specs.Said.{value_said}
 use Rattle.stl_write.proofs.Corners.{number_within}
 use Rattle.stl_write.proofs.Back.{written-file, read_back}
 use Rattle.mesh_weld.specs.Weld.{Merged, weld_of}
 use Rattle.mesh_weld.specs.Call as M
-use Rattle.mesh_weld.specs.declared.Welded.TheVariants as welded
 use Rattle.mesh_weld.specs.Read.{read_verdict, read_left}
 use Rattle.stl_again.specs.Returns.{ReadsAsWeld, Returns}
 use Rattle.stl_again.proofs.Vertices.{Counts, welded-counts, all_of, corners_have, corners_length, vertices_good, corners_good}
@@ -43,7 +42,7 @@ unfolding read_left read_verdict M.weld_left unless
 as_weld bs cs h e = λ s us js. rw (h, e)
 
 -- what an accepted `write_stl` wrote
-pub written_read : (vs : List Float) (is out l : List ℕ) (n : ℕ) → W.left (W.said (stl-written.Wrote n)) l ≡ W.write_left vs is out → ReadsAsWeld (take n l) (gathered vs is)
+pub written_read : (vs : List Float) (is out l : List ℕ) (n : ℕ) → W.left (value_said (Ok n)) l ≡ W.write_left vs is out → ReadsAsWeld (take n l) (gathered vs is)
 written_read vs is out l n h = as_weld (take n l) (gathered vs is) (written-file vs is out l n h) (read_back vs is out l n h)
 
 -- ---- what is read is exactly f32
@@ -102,7 +101,7 @@ module _ (cs : List Float) (n : ℕ) (whole : length cs ≡ face_numbers * n) (f
   unfolding W.numbers_good
   numbers = rw (vertices_good cs good) (corners_single cs single)
 
-  tested : (room : ℕ) → size_of (length mesh.indices / 3) ≤ room → W.verdict_of mesh.vertices mesh.indices room ≡ Accepted
+  tested : (room : ℕ) → size_of (length mesh.indices / 3) ≤ room → W.verdict_of mesh.vertices mesh.indices room ≡ (Ok tt)
   unfolding W.verdict_of unless
   tested room h = rw (shaped, counted, below, numbers, le-leb (size_of (length mesh.indices / 3)) room h)
 
@@ -115,7 +114,7 @@ module _ (cs : List Float) (n : ℕ) (whole : length cs ≡ face_numbers * n) (f
   is_file = as_weld (stl_of corners) corners (is_stl_lem corners n long (omega (arith, few))) (coordinates_are corners n long (omega (arith, few)) (corners_single cs single))
 
   granted : (words room numbers : ℕ) → length mesh.indices * 4 ≤ words → length mesh.indices * 3 ≤ room → length mesh.indices ≤ numbers
-      → M.verdict_of corners words room numbers ≡ Accepted
+      → M.verdict_of corners words room numbers ≡ (Ok tt)
   unfolding M.verdict_of M.lent_verdict unless
   granted words room numbers h j k =
       rw (
@@ -144,11 +143,11 @@ module _ (cs : List Float) (n : ℕ) (whole : length cs ≡ face_numbers * n) (f
   returns = record { written = can_write; read = can_read }
 
 -- ---- what an accepted `read_stl` read
-module _ (bs s : List ℕ) (vs : List Float) (is : List ℕ) (v n : ℕ) (l : M.Lent) (h : leaves (M.said (welded.Wrote v n)) l ≡ read_left bs s vs is) where
+module _ (bs s : List ℕ) (vs : List Float) (is : List ℕ) (v n : ℕ) (l : M.Lent) (h : leaves (M.said (Ok (record { vertices = v; indices = n }))) l ≡ read_left bs s vs is) where
   abbrev corners_in : List Float
   corners_in = coordinates_in bs
 
-  told : (read_verdict bs (length s) (length vs) (length is) ≡ Accepted) × (leaves (accepted (v ∷ n ∷ [])) l ≡ M.welded corners_in s vs is)
+  told : (read_verdict bs (length s) (length vs) (length is) ≡ (Ok tt)) × (leaves (accepted (v ∷ n ∷ [])) l ≡ M.welded corners_in s vs is)
   unfolding read_left
   told = was_accepted (read_verdict bs (length s) (length vs) (length is)) (M.lent s vs is) l (M.welded corners_in s vs is) (v ∷ n ∷ []) h
 

@@ -14,8 +14,7 @@ use Rattle.path.specs.Tests.{most_coordinate, within_of, all_within, coordinate_
 use Rattle.path.proofs.Tests.{both}
 use Rattle.mesh.proofs.Gathers.{length-gathered}
 use Rattle.mesh.specs.Meshes.{gathered, all_below}
-use Rattle.mesh_weld.specs.declared.Found.{Found}
-use Rattle.mesh_weld.specs.declared.Found.TheVariants.{At, Nothing}
+use Rattle.std.specs.Prelude.{Option, Some, None}
 use Rattle.mesh_weld.specs.Weld.{find, Merged, join_as, join, weld_to, weld_of}
 use Rattle.mesh_weld.proofs.Finds.{find-below}
 
@@ -38,16 +37,16 @@ below_more k (j ∷ is) h =
     let b = both (ltb j k) (all_below k is) h in
     rw (lt-ltb j (k + 1) (omega (arith, ltb-true j k b.0))) (below_more k is b.1)
 
-counts_join : (w : Merged) (n : ℕ) (p : Vector) (f : Found) → Counts w n → ((i : ℕ) → f ≡ At i → i < w.count) → Counts (join_as w p f) (suc n)
+counts_join : (w : Merged) (n : ℕ) (p : Vector) (f : Option ℕ) → Counts w n → ((i : ℕ) → f ≡ Some i → i < w.count) → Counts (join_as w p f) (suc n)
 unfolding join_as
-counts_join w n p (At i) c h =
+counts_join w n p (Some i) c h =
     record {
       wide = c.wide;
       long = omega (arith, length-append w.indices (i ∷ []), c.long);
       few = omega (arith, c.few);
       low = below_last w.count w.indices i c.low (h i refl);
     }
-counts_join w n p Nothing c h =
+counts_join w n p None c h =
     record {
       wide = omega (arith, length-append w.vertices (p.x ∷ p.y ∷ p.z ∷ []), c.wide);
       long = omega (arith, length-append w.indices (w.count ∷ []), c.long);
@@ -103,10 +102,10 @@ module _ (P : Float → Bool) where
   unfolding point_at
   point_has xs i h l = (all_at xs (i * 3) h (omega arith), all_at xs (i * 3 + 1) h (omega arith), all_at xs (i * 3 + 2) h l)
 
-  has_join : (w : Merged) (p : Vector) (f : Found) → all_of P w.vertices ≡ true → Has p → all_of P (join_as w p f).vertices ≡ true
+  has_join : (w : Merged) (p : Vector) (f : Option ℕ) → all_of P w.vertices ≡ true → Has p → all_of P (join_as w p f).vertices ≡ true
   unfolding join_as all_of
-  has_join w p (At i) h g = h
-  has_join w p Nothing h g = all_append w.vertices (p.x ∷ p.y ∷ p.z ∷ []) h (rw (g.0, g.1, g.2))
+  has_join w p (Some i) h g = h
+  has_join w p None h g = all_append w.vertices (p.x ∷ p.y ∷ p.z ∷ []) h (rw (g.0, g.1, g.2))
 
   pub has_to : (cs : List Float) (n : ℕ) → all_of P cs ≡ true → n * 3 ≤ length cs → all_of P (weld_to cs n).vertices ≡ true
   unfolding weld_to join all_of

@@ -1,4 +1,5 @@
 -- What an accepted call leaves: the bytes written are a file, and the coordinates read from it are those of the corners, bit for bit.
+use Rattle.std.specs.Prelude.{Ok}
 use mathlib.Core.Path.{◌≡◌, sym, ap, ◌∙◌}
 use mathlib.Core.Bool.{true}
 use mathlib.Core.List.{List, [], ◌∷◌}
@@ -7,24 +8,22 @@ use native.Mathlib.Omega.{arith}
 use lib.ListN.{length, get_or, take, drop}
 use lib.Seq.{take-append_seam, drop-append_seam}
 use lib.Ieee.{Float}
-use Rattle.refusal.specs.Said.{accepted}
+use Rattle.refusal.specs.Said.{accepted, value_said}
 use Rattle.refusal.specs.Outcome.{Outcome, leaves}
-use Rattle.refusal.specs.declared.Verdict.TheVariants.{Accepted}
 use Rattle.refusal.proofs.Unique.{same-values}
 use Rattle.refusal.proofs.Outcomes.{was_accepted}
 use Rattle.path.specs.Laid.{over}
 use Rattle.mesh.specs.Meshes.{gathered}
 use Rattle.stl.specs.Files.{is_stl, coordinates_in, stl_of}
 use Rattle.stl.proofs.Back.{is_stl_lem, coordinates_are}
-use Rattle.stl_write.specs.declared.StlWritten.TheVariants.{Wrote}
-use Rattle.stl_write.specs.Call.{Lent, lent, said, left, laid, verdict_of, write_left}
+use Rattle.stl_write.specs.Call.{Lent, lent, left, laid, verdict_of, write_left}
 use Rattle.stl_write.proofs.Calls.{Granted, granted, all_gathered}
 
-module _ (vs : List Float) (is out l : List ℕ) (n : ℕ) (h : left (said (Wrote n)) l ≡ write_left vs is out) where
+module _ (vs : List Float) (is out l : List ℕ) (n : ℕ) (h : left (value_said (Ok n)) l ≡ write_left vs is out) where
   abbrev File : List ℕ
   File = stl_of (gathered vs is)
 
-  told : (verdict_of vs is (length out) ≡ Accepted) × (leaves (accepted (n ∷ [])) (lent l) ≡ laid File out)
+  told : (verdict_of vs is (length out) ≡ (Ok tt)) × (leaves (accepted (n ∷ [])) (lent l) ≡ laid File out)
   unfolding write_left
   told = was_accepted (verdict_of vs is (length out)) (lent out) (lent l) (laid File out) (n ∷ []) h
 

@@ -1,5 +1,8 @@
 -- The call as a whole: what its tests grant, the loop over the faces, and what the call leaves.
-use mathlib.Core.Path.{◌≡◌, sym, ap, ◌∙◌}
+use Rattle.refusal.specs.Refusals.{unless}
+use Rattle.refusal.specs.declared.Refusal.TheVariants.{Number, Room}
+use Rattle.std.specs.Prelude.{Ok, leb}
+use mathlib.Core.Path.{◌≡◌, refl, sym, ap, ◌∙◌}
 use mathlib.Core.Bool.{Bool, true, false, ◌&&◌}
 use mathlib.Core.List.{List, [], ◌∷◌}
 use Prim.Native.Nat.{ℕ, ◌+◌, ◌-◌, ◌*◌, ◌/◌, ◌≤◌, ◌<◌}
@@ -10,13 +13,12 @@ use lib.Ieee.{Float}
 use borrow.Author.Tests.{leb-true}
 use Rattle.refusal.specs.Limits.{most_faces}
 use Rattle.refusal.specs.Said.{accepted}
-use Rattle.refusal.specs.declared.Verdict.TheVariants.{Accepted}
 use Rattle.path.specs.Tests.{coordinates_good}
 use Rattle.path.specs.Laid.{over, flat}
 use Rattle.path.proofs.Tests.{passed, both}
 use Rattle.path.proofs.Pushes.{over-sets}
 use Rattle.mesh.specs.declared.Triangle.{Triangle}
-use Rattle.mesh.specs.Meshes.{face_at, gathered, all_below}
+use Rattle.mesh.specs.Meshes.{face_at, gathered, all_below, mesh_verdict}
 use Rattle.mesh.proofs.Tests.{few_faces, whole_faces}
 use Rattle.mesh.proofs.Gathers.{length-gathered, face-gathered}
 use Rattle.stl.specs.Files.{face_numbers, size_of, face_of, faces_of, stl_of, all_single}
@@ -48,7 +50,7 @@ pub record Granted (vs : List Float) (is : List ℕ) (room : ℕ) : Type 0 where
   pub exact : all_single (gathered vs is) ≡ true
   pub fits : size_of (length is / 3) ≤ room
 
-pub granted : (vs : List Float) (is : List ℕ) (room : ℕ) → verdict_of vs is room ≡ Accepted → Granted vs is room
+pub granted : (vs : List Float) (is : List ℕ) (room : ℕ) → verdict_of vs is room ≡ (Ok tt) → Granted vs is room
 unfolding verdict_of numbers_good
 granted vs is room h =
     let shape = passed _ _ _ h in
@@ -86,3 +88,9 @@ all_written vs is out out' n g e q =
     let a : out' ≡ over out file = e ∙ over-sets out file (omega (arith, s, g.fits)) in
     let b : n ≡ length file = q ∙ sym s in
     rw (a, b)
+
+-- the mesh's tests come before the numbers and the room
+pub mesh-first : (vs : List Float) (is : List ℕ) (room : ℕ)
+    → verdict_of vs is room ≡ mesh_verdict vs is (unless (numbers_good vs is) Number (unless (leb (size_of (length is / 3)) room) Room (Ok tt)))
+unfolding verdict_of mesh_verdict
+mesh-first vs is room = refl

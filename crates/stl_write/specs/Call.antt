@@ -1,17 +1,13 @@
 -- Writing a mesh as a binary STL file: when it is refused, what it answers, and what it leaves in the bytes lent to it.
-use Rattle.std.specs.Prelude.{Bool, ◌&&◌, List, [], ◌∷◌, ℕ, ◌/◌, length, leb, Float}
+use Rattle.std.specs.Prelude.{Ok, Bool, ◌&&◌, List, [], ◌∷◌, ℕ, ◌/◌, length, leb, Float}
 use Rattle.refusal.specs.declared.Refusal.TheVariants.{Shape, Count, Vertex, Number, Room}
-use Rattle.refusal.specs.declared.Verdict.{Verdict}
-use Rattle.refusal.specs.declared.Verdict.TheVariants.{Accepted}
-use Rattle.refusal.specs.Refusals.{unless}
-use Rattle.refusal.specs.Said.{Said, accepted, refused}
+use Rattle.refusal.specs.Refusals.{Verdict, unless}
+use Rattle.refusal.specs.Said.{Said, accepted}
 use Rattle.refusal.specs.Outcome.{Outcome, leaves, outcome}
 use Rattle.path.specs.Tests.{coordinates_good}
 use Rattle.path.specs.Laid.{over}
 use Rattle.mesh.specs.Meshes.{gathered, shaped_of, counted_of, all_below}
 use Rattle.stl.specs.Files.{size_of, stl_of, all_single}
-use Rattle.stl_write.specs.declared.StlWritten.{StlWritten}
-use Rattle.stl_write.specs.declared.StlWritten.TheVariants as W
 
 -- the coordinates of every vertex, named by a face or not, within their bound; those of every corner that a face names exactly f32
 unfoldable pub numbers_good : List Float → List ℕ → Bool
@@ -26,12 +22,7 @@ verdict_of vs is room =
     (unless (all_below (length vs / 3) is) Vertex
     (unless (numbers_good vs is) Number
     (unless (leb (size_of (length is / 3)) room) Room
-    Accepted))))
-
--- the answer's number and values: bytes written
-abbrev pub said : StlWritten → Said ℕ
-said (W.Wrote n) = accepted (n ∷ [])
-said (W.Refused r) = refused r
+    (Ok tt)))))
 
 pub record Lent : Type 0 where
   pub bytes : List ℕ

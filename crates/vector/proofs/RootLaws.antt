@@ -1,5 +1,6 @@
 -- What callers want of the square root: it is 0 exactly at 0, it is monotone, and a length over a NaN is NaN.
-use Rattle.std.proofs.Common.{◌≡◌, ℕ, zero, suc, ◌+◌, ◌*◌, ◌/◌, ◌^◌, ◌<◌, ◌≤◌, Bool, true, false, not, T, ltb, ◌⊎◌, ℤ, sym, refl, ap, ◌∙◌, subst, inl, inr, ⊎_elim, le_trans, le_of_eq, lt_of_lt_of_le, lt_of_le_of_lt, mul-le-mul_right, zero-lt-suc, mul-pos, one-mul, zero-mul, mul_right_comm, arith, lit<, ltb→lt, lt→ltb, nltb→le, pow_pos}
+use Rattle.std.proofs.Common.{◌≡◌, ℕ, zero, suc, ◌+◌, ◌*◌, ◌/◌, ◌^◌, ◌<◌, ◌≤◌, Bool, true, false, Result, Ok, Err, not, T, ltb, ◌⊎◌, ℤ, sym, refl, ap, ◌∙◌, subst, inl, inr, ⊎_elim, le_trans, le_of_eq, lt_of_lt_of_le, lt_of_le_of_lt, mul-le-mul_right, zero-lt-suc, mul-pos, one-mul, zero-mul, mul_right_comm, arith, lit<, ltb→lt, lt→ltb, nltb→le, pow_pos}
+use Rattle.std.specs.Result.{result_unwrap_or}
 use lib.Arith.{le→nltb}
 use lib.Ieee.{Float, nan, inf, fin, up, down, binary64, fits, of_bits, to_bits, add, mul, lt, eq, is_nan}
 use lib.Ieee.Bits.{is_false}
@@ -12,6 +13,8 @@ use Rattle.vector.specs.Vectors.{length_squared_of}
 use Rattle.vector.specs.Lengths.{or_nan, zero64, length_of}
 use Rattle.vector.specs.Root.{units_of, mid, under, root_bits, root_of}
 use Rattle.vector.specs.InnerSteps.{NearestUnits}
+use Rattle.refusal.specs.declared.Refusal.{Refusal}
+use Rattle.refusal.specs.Said.{value_said}
 use Rattle.vector.specs.Units.{at}
 use Rattle.vector.proofs.Roots.{lt-or_ge}
 use Rattle.vector.proofs.Patterns.{nil, above, of_bits_lem, in_patterns, units_bits, units_pos, units_lt}
@@ -208,3 +211,8 @@ length_nan v h = ap rooted (square h) ∙ (unfold root_of in refl)
     square (inl p) = unfold mul add in rw p
     square (inr (inl p)) = unfold mul in rw p (rw (add-nan (mul binary64 v.x v.x)) (unfold add in refl))
     square (inr (inr p)) = unfold mul in rw p (add-nan _)
+
+-- the value of an answer, NaN where it was refused, is what is read of what it says
+pub unwrapped : (r : Result Float Refusal) → result_unwrap_or r nan ≡ or_nan (value_said r)
+unwrapped (Ok y) = refl
+unwrapped (Err e) = refl

@@ -1,5 +1,4 @@
 pub mod Vectors
-pub mod Answers
 pub mod Floor
 pub mod Root
 pub mod Units

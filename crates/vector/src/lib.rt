@@ -3,27 +3,19 @@
 #![tactic(auto)]
 
 ghost use Rattle.std.specs.Prelude.{◌≡◌};
-ghost use Rattle.vector.specs.Answers.{unit_said};
+ghost use Rattle.refusal.specs.Said.{option_said};
 ghost use Rattle.vector.specs.Vectors.{vec, add_of, sub_of, mul_of, div_of, add_scalar_of, sub_scalar_of, mul_scalar_of, div_scalar_of, dot_of, cross_of, length_squared_of, distance_squared_of, equal_of};
 ghost use Rattle.vector.specs.Lengths.{length_of, distance_of, unit_of, segment_distance_of};
-
-use crate::number::Root;
 
 pub mod matrix;
 pub mod number;
 
-#[derive(Clone, Copy)]
+// Two are equal where their coordinates compare equal: the source's `==`.
+#[derive(Clone, Copy, Debug, PartialEq)]
 pub struct Vector {
     pub x: f64,
     pub y: f64,
     pub z: f64,
-}
-
-// A vector of length 1, or nothing where the computed length is 0.
-#[derive(Clone, Copy)]
-pub enum Unit {
-    Of(Vector),
-    Nothing,
 }
 
 impl Vector {
@@ -33,26 +25,19 @@ impl Vector {
         Vector { x, y, z }
     }
 
-    // Whether the coordinates compare equal: the source's `==`.
+    // Whether the coordinates compare equal: what `==` answers.
+    #[tactic(auto, unfolding(crate::specs::Vectors::equal_of))]
     pub fn equal(self, other: Vector) -> bool
         ensures { result ≡ equal_of self other }
     {
-        if self.x == other.x {
-            if self.y == other.y {
-                return self.z == other.z;
-            }
-        }
-        false
+        self == other
     }
 
     // The root of the sum of squares; NaN where that is NaN.
     pub fn length(self) -> f64
         ensures { result ≡ length_of self }
     {
-        match number::sqrt(self.length_squared()) {
-            Root::Of(y) => y,
-            Root::Refused(_) => 0.0 / 0.0,
-        }
+        number::sqrt(self.length_squared()).unwrap_or(0.0 / 0.0)
     }
 
     pub fn distance(self, other: Vector) -> f64
@@ -89,15 +74,15 @@ impl Vector {
         }
     }
 
-    // Each coordinate over the length. The source stops where the length is 0; here there is none.
-    pub fn normalize(self) -> Unit
-        ensures { unit_said result ≡ unit_of self }
+    // Each coordinate over the length, none where the computed length is 0. The source stops there.
+    pub fn normalize(self) -> Option<Vector>
+        ensures { option_said result ≡ unit_of self }
     {
         let d = self.length();
         if d == 0.0 {
-            return Unit::Nothing;
+            return None;
         }
-        Unit::Of(Vector {
+        Some(Vector {
             x: self.x / d,
             y: self.y / d,
             z: self.z / d,
@@ -185,6 +170,7 @@ impl Vector {
     }
 
     // The distance to the nearest point of the segment from v to w.
+    #[tactic(auto, unfolding(crate::specs::Lengths::segment_distance_of))]
     pub fn segment_distance(self, v: Vector, w: Vector) -> f64
         ensures { result ≡ segment_distance_of self v w }
     {

@@ -1,10 +1,9 @@
 // Floor, square root and absolute value, worked out here: the source takes them from the machine.
 ghost use Rattle.std.specs.Prelude.{◌≡◌, ◌+◌, ◌*◌, ◌^◌, ◌<◌, ◌≤◌, true, false, [], ◌∷◌};
-ghost use Rattle.vector.specs.Answers.{whole_said, root_said};
 ghost use Rattle.vector.specs.Floor.{floor_of};
 ghost use Rattle.std.specs.Float.{binary64, inf};
 ghost use Rattle.std.specs.Float.Ieee.{lt, mul};
-ghost use Rattle.refusal.specs.Said.{accepted};
+ghost use Rattle.refusal.specs.Said.{accepted, value_said};
 ghost use Rattle.vector.specs.Root.{root_of};
 ghost use Rattle.vector.specs.Lengths.{or_nan, zero64};
 ghost use Rattle.vector.specs.InnerSteps.{Digits, slope_of, height_of, rough_of, heron_of, Close, Normal, NearestUnits};
@@ -13,34 +12,20 @@ ghost use Rattle.vector.specs.Abs.{abs_of};
 
 use refusal::Refusal;
 
-// A whole number, or the refusal.
-#[derive(Clone, Copy)]
-pub enum Whole {
-    Of(i64),
-    Refused(Refusal),
-}
-
-// A root, or the refusal.
-#[derive(Clone, Copy)]
-pub enum Root {
-    Of(f64),
-    Refused(Refusal),
-}
-
 // The greatest whole number not above x, for a magnitude below 2^53.
-pub fn floor(x: f64) -> Whole
-    ensures { whole_said result ≡ floor_of x }
+pub fn floor(x: f64) -> Result<i64, Refusal>
+    ensures { value_said result ≡ floor_of x }
 {
     if x > -9007199254740992.0 {
         if x < 9007199254740992.0 {
             let t = std::num::truncating_f64_to_i64(x);
             if x < t as f64 {
-                return Whole::Of(t - 1);
+                return Ok(t - 1);
             }
-            return Whole::Of(t);
+            return Ok(t);
         }
     }
-    Whole::Refused(Refusal::Number)
+    Err(Refusal::Number)
 }
 
 // The magnitude: the sign is cleared, that of -0 too.
@@ -98,6 +83,7 @@ fn heron(h: f64, r: f64) -> f64
     h / r + r / 2.0
 }
 
+// (The bounds of n, here and in the two functions below, are one fact: a type for them would be made and taken apart in every root.)
 // The whole number nearest to what two of Heron's steps make of the rough root: the whole part of the root of n, or 1
 // above. Where 2^52 is added, the last digits of the pattern are that number.
 fn near_root(n: u64) -> u64
@@ -192,35 +178,26 @@ fn root_of(x: f64) -> f64
 }
 
 // The f64 nearest to the root of x; zeros and infinity are their own roots.
-pub fn sqrt(x: f64) -> Root
-    ensures { root_said result ≡ root_of x }
+pub fn sqrt(x: f64) -> Result<f64, Refusal>
+    ensures { value_said result ≡ root_of x }
 {
     if x > 0.0 {
         if x < 1.0 / 0.0 {
-            return Root::Of(root_of(x));
+            return Ok(root_of(x));
         }
-        return Root::Of(x);
+        return Ok(x);
     }
     if x == 0.0 {
-        return Root::Of(x);
+        return Ok(x);
     }
-    Root::Refused(Refusal::Number)
+    Err(Refusal::Number)
 }
 
 // The root, NaN where there is none.
 pub fn root_or_nan(x: f64) -> f64
     ensures { result ≡ or_nan (root_of x) }
 {
-    if x > 0.0 {
-        if x < 1.0 / 0.0 {
-            return root_of(x);
-        }
-        return x;
-    }
-    if x == 0.0 {
-        return x;
-    }
-    0.0 / 0.0
+    sqrt(x).unwrap_or(0.0 / 0.0)
 }
 
 // Whether x is so far above y, by three f64 or more, that its root must be above that of y.

@@ -1,5 +1,5 @@
 -- `put_segments` meets its contract. What is still to be put from here is what was to be put at the start, and so is how many there will
--- be; so far there is at most a segment a face; the faces that are left fall.
+-- be; so far there is at most a segment a face.
 use mathlib.Core.Path.{◌≡◌}
 use Prim.Native.Nat.{◌+◌, ◌-◌, ◌*◌, ◌≤◌}
 use lib.ListN.{length}
@@ -9,9 +9,6 @@ use Rattle.mesh_contour_rule.specs.Contour.{corner_of, segments_from}
 use Rattle.mesh_contour.proofs.put_segments.Given as goal
 
 abbrev pub invariant-loop-f : goal.invariant-loop-f
-invariant-loop-f l = let left = segments_from (corner_of l.plane l.tolerance l.vertices l.indices) l.f (l.n - l.f) in
-    let all = segments_from (corner_of l.plane l.tolerance l.vertices l.indices) 0 l.n in
-    (l.f ≤ l.n) × (l.k ≤ l.f) × (length l.out ≡ length l.initial.out) × (put_points l.out (2 * l.k) (joined left) ≡ put_points l.initial.out 0 (joined all)) × (l.k + length left ≡ length all)
-
-abbrev pub decreases-loop-f : goal.decreases-loop-f
-decreases-loop-f l = l.n - l.f
+invariant-loop-f l = let left = segments_from (corner_of l.plane l.tolerance l.mesh.vertices.now l.mesh.indices.now) l.f (l.n - l.f) in
+    let all = segments_from (corner_of l.plane l.tolerance l.mesh.vertices.now l.mesh.indices.now) 0 l.n in
+    (l.k ≤ l.f) × (length l.out ≡ length l.initial.out) × (put_points l.out (2 * l.k) (joined left) ≡ put_points l.initial.out 0 (joined all)) × (l.k + length left ≡ length all)

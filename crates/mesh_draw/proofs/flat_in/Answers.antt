@@ -8,8 +8,8 @@ use Rattle.mesh_draw.proofs.flat_in.Goals as goal
 
 pub returns-then-needs : goal.returns-then-needs
 returns-then-needs c =
-    one-verdict _ _ c.flat_verdict.ensures ∙ flat-there c.args.vertices.now c.args.indices.now _ (all_reach _ c.args.indices.now c.requires.indices_value)
-    ∙ flat-needed c.args.mode _ c.needs_of-needs.ensures c.args.vertices.now c.args.indices.now c.if-needs.true
+    one-verdict _ _ c.flat_verdict.ensures ∙ flat-there c.args.mesh.vertices.now c.args.mesh.indices.now _ (all_reach _ c.args.mesh.indices.now c.args.mesh.below)
+    ∙ flat-needed c.args.mode _ c.needs_of-needs.ensures c.args.mesh.vertices.now c.args.mesh.indices.now c.if-needs.true
 
 pub returns : goal.returns
-returns c = flat-spared c.args.mode _ c.needs_of-needs.ensures c.args.vertices.now c.args.indices.now c.if-needs.false
+returns c = flat-spared c.args.mode _ c.needs_of-needs.ensures c.args.mesh.vertices.now c.args.mesh.indices.now c.if-needs.false

@@ -1,16 +1,16 @@
-use native.Mathlib.Omega.{arith}
-use mathlib.Core.Path.{refl, ◌∙◌}
+use Rattle.std.proofs.Common.{arith, refl, ◌∙◌}
 use Rattle.mesh_edges.proofs.Flipping.{flagging, flagging_more, flagging_all}
 use Rattle.mesh_edges.proofs.walk_flips.Goals as goal
 
-pub loop-i-init : goal.loop-i-init
-loop-i-init c = (omega arith, refl, flagging c.args.s.now c.args.n c.requires c.args.flips.now)
+pub loop-pair-init : goal.loop-pair-init
+loop-pair-init c = rw (c.into_iter-pair-iterator.ensures.into_iter_gives, c.chunks_exact-pair-items.ensures.size, c.chunks_exact-pair-items.ensures.rest) (refl, flagging c.args.s.now c.args.n c.requires c.args.flips.now)
 
-pub loop-i-preserved : goal.loop-i-preserved
-loop-i-preserved c = (omega arith, c.flag_pair.auto.s ∙ c.loop-i.invariant.1, flagging_more c.args.s.now c.args.n c.requires c.args.flips.now c.loop-i.s c.loop-i.i c.loop-i.invariant.2 (omega (arith, c.loop-i.invariant.0, c.loop-i-test.true)) c.flag_pair.new.s c.flag_pair.ensures)
-
-pub shape_of-s : goal.shape_of-s
-shape_of-s c = c.loop-i.invariant.1
+pub loop-pair-preserved : goal.loop-pair-preserved
+loop-pair-preserved c =
+    let e = (c.in-Some.ensures).steps in
+    (e.0 ∙ c.loop-pair.invariant.0, flagging_more c.args.s.now c.args.n c.requires c.args.flips.now c.loop-pair.s _ c.loop-pair.invariant.1 c.in-Some.pair.now _ e.1.0 (e.1.1 ∙ c.loop-pair.invariant.0) c.flag_pair.new.s c.flag_pair.ensures)
 
 pub returns : goal.returns
-returns c = flagging_all c.args.s.now c.args.n c.requires c.args.flips.now c.loop-i.s c.loop-i.i c.loop-i.invariant.2 (omega (arith, c.loop-i-test.false))
+returns c =
+    let e = (c.in-None.ensures).steps in
+    flagging_all c.args.s.now c.args.n c.requires c.args.flips.now c.loop-pair.s _ c.loop-pair.invariant.1 (omega (arith, e.1.0, c.loop-pair.invariant.0))

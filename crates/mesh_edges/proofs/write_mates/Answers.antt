@@ -25,8 +25,5 @@ loop-p-preserved c =
     let v = end-within c.args.s.now c.args.n c.requires.n_in_bounds.0 c.requires.below c.loop-p.s c.loop-p.p c.loop-p.invariant.2 h in
     (omega (arith, c.edge_end-q.ensures), c.mate.auto.s ∙ c.loop-p.invariant.1, mating-more c.args.s.now c.args.n c.requires.n_in_bounds.0 c.requires.below c.loop-p.s c.loop-p.p c.loop-p.invariant.2 h c.edge_end-q.result c.edge_end-q.ensures c.mate.new.s c.mate.ensures)
 
-pub shape_of-s : goal.shape_of-s
-shape_of-s c = c.loop-p.invariant.1
-
 pub returns : goal.returns
 returns c = mating-all c.args.s.now c.args.n c.requires.n_in_bounds.0 c.requires.below c.loop-p.s c.loop-p.p c.loop-p.invariant.2 (omega (arith, c.loop-p.invariant.0))

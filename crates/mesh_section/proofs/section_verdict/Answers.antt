@@ -1,58 +1,21 @@
--- `section_verdict` meets its contract: each test is that of the definition.
+-- `section_verdict` meets its contract: the room is tested last.
 use mathlib.Core.Path.{sym, ◌∙◌}
+use Rattle.std.proofs.lemmas.Result.{err_from_is_err_and}
 use Rattle.refusal.specs.Refusals.{unless}
-use Rattle.mesh_section.specs.Call.{verdict_of}
+use Rattle.mesh_section.proofs.Verdicts.{cut-passed, cut-refused, room-last}
 use Rattle.mesh_section.proofs.section_verdict.Goals as goal
 
-pub returns-then-not-shaped : goal.returns-then-not-shaped
-unfolding verdict_of unless
-returns-then-not-shaped c = simp (sym c.shaped.ensures ∙ c.if-not-shaped.true)
-
-pub returns-then-not-counted : goal.returns-then-not-counted
-unfolding verdict_of unless
-returns-then-not-counted c =
-    simp (
-      sym c.shaped.ensures ∙ c.if-not-shaped.false,
-      sym c.counted.ensures ∙ c.if-not-counted.true,
-    )
-
-pub returns-then-not-all_below : goal.returns-then-not-all_below
-unfolding verdict_of unless
-returns-then-not-all_below c =
-    simp (
-      sym c.shaped.ensures ∙ c.if-not-shaped.false,
-      sym c.counted.ensures ∙ c.if-not-counted.false,
-      sym c.all_below.ensures ∙ c.if-not-all_below.true,
-    )
-
-pub returns-then-not-numbers_good : goal.returns-then-not-numbers_good
-unfolding verdict_of unless
-returns-then-not-numbers_good c =
-    simp (
-      sym c.shaped.ensures ∙ c.if-not-shaped.false,
-      sym c.counted.ensures ∙ c.if-not-counted.false,
-      sym c.all_below.ensures ∙ c.if-not-all_below.false,
-      sym c.numbers_good.ensures ∙ c.if-not-numbers_good.true,
-    )
+pub returns-in_err-cut_verdict : goal.returns-in_err-cut_verdict
+returns-in_err-cut_verdict c =
+    let p = err_from_is_err_and c.from_residual.result c.from_residual.ensures.1 in
+    rw (p.1, p.2) (sym (room-last _ _ _ _ _ _ ∙ cut-refused _ _ _ _ _ (sym c.cut_verdict.ensures ∙ c.in_err-cut_verdict.was) _))
 
 pub returns-then-not-room_for : goal.returns-then-not-room_for
-unfolding verdict_of unless
+unfolding unless
 returns-then-not-room_for c =
-    simp (
-      sym c.shaped.ensures ∙ c.if-not-shaped.false,
-      sym c.counted.ensures ∙ c.if-not-counted.false,
-      sym c.all_below.ensures ∙ c.if-not-all_below.false,
-      sym c.numbers_good.ensures ∙ c.if-not-numbers_good.false,
-      sym c.room_for.ensures ∙ c.if-not-room_for.true,
-    )
+    sym (room-last _ _ _ _ _ _ ∙ cut-passed _ _ _ _ (sym c.cut_verdict.ensures ∙ c.in_ok-cut_verdict.was) _ ∙ (rw (sym c.room_for.ensures ∙ c.if-not-room_for.true)))
 
 pub returns : goal.returns
-unfolding verdict_of unless
+unfolding unless
 returns c =
-    simp (
-      sym c.shaped.ensures ∙ c.if-not-shaped.false,
-      sym c.counted.ensures ∙ c.if-not-counted.false,
-      sym c.all_below.ensures ∙ c.if-not-all_below.false,
-      sym c.numbers_good.ensures ∙ c.if-not-numbers_good.false,
-      sym c.room_for.ensures ∙ c.if-not-room_for.false,
-    )
+    sym (room-last _ _ _ _ _ _ ∙ cut-passed _ _ _ _ (sym c.cut_verdict.ensures ∙ c.in_ok-cut_verdict.was) _ ∙ (rw (sym c.room_for.ensures ∙ c.if-not-room_for.false)))

@@ -1,14 +1,19 @@
 -- `face_verdict` meets its contract, by what `normal` answers.
-use mathlib.Core.Path.{sym, ap, ◌∙◌}
-use Rattle.mesh_seen.specs.declared.FaceNormal.{FaceNormal}
+use mathlib.Core.Path.{◌≡◌, sym, ap, ◌∙◌}
+use Rattle.std.specs.Prelude.{Err}
+use Rattle.mesh_seen.specs.declared.Flat.TheVariants.{Alike, NoLength}
 use Rattle.mesh_seen.proofs.Normals.{verdict_by, verdict_by_lem}
 use Rattle.mesh_seen.proofs.face_verdict.Goals as goal
 
-pub returns-in-Of : goal.returns-in-Of
-returns-in-Of c = ap (λ (x : FaceNormal). verdict_by x c.args.f) (sym c.in-Of.is) ∙ verdict_by_lem c.args.t c.args.f c.normal.result c.normal.ensures
+pub returns-in-Ok : goal.returns-in-Ok
+returns-in-Ok c = ap (λ x. verdict_by x c.args.f) (sym c.in-Ok.is) ∙ verdict_by_lem c.args.t c.args.f c.normal.result c.normal.ensures
 
-pub returns-in-Alike : goal.returns-in-Alike
-returns-in-Alike c = ap (λ (x : FaceNormal). verdict_by x c.args.f) (sym c.in-Alike.is) ∙ verdict_by_lem c.args.t c.args.f c.normal.result c.normal.ensures
+pub returns-in-Err-Alike : goal.returns-in-Err-Alike
+returns-in-Err-Alike c =
+    let e : c.normal.result ≡ Err Alike = cc in
+    ap (λ x. verdict_by x c.args.f) (sym e) ∙ verdict_by_lem c.args.t c.args.f c.normal.result c.normal.ensures
 
-pub returns-in-NoLength : goal.returns-in-NoLength
-returns-in-NoLength c = ap (λ (x : FaceNormal). verdict_by x c.args.f) (sym c.in-NoLength.is) ∙ verdict_by_lem c.args.t c.args.f c.normal.result c.normal.ensures
+pub returns-in-Err-NoLength : goal.returns-in-Err-NoLength
+returns-in-Err-NoLength c =
+    let e : c.normal.result ≡ Err NoLength = cc in
+    ap (λ x. verdict_by x c.args.f) (sym e) ∙ verdict_by_lem c.args.t c.args.f c.normal.result c.normal.ensures

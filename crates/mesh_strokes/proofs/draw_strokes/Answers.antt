@@ -12,8 +12,10 @@ returns-then-not-ready c = strokes_no c.args.vertices.now c.args.indices.now c.a
 
 pub draw_in-p-requires : goal.draw_in-p-requires
 draw_in-p-requires c =
-    let h = both _ _ (sym c.ready.ensures ∙ c.if-not-ready.false) in
-    record { fitting = granted c.args.indices.now _ _ _ _ h.0; indices_value = h.1 }
+    granted c.args.indices.now _ _ _ _ (both _ _ (sym c.ready.ensures ∙ c.if-not-ready.false)).0
+
+pub invariant_of-mesh : goal.invariant_of-mesh
+invariant_of-mesh c = record { below = (both _ _ (sym c.ready.ensures ∙ c.if-not-ready.false)).1 }
 
 pub returns : goal.returns
 returns c =

@@ -7,8 +7,8 @@ use Rattle.mesh_strokes.proofs.look.Goals as goal
 
 pub returns-then-needs : goal.returns-then-needs
 returns-then-needs c =
-    c.see.ensures ∙ seen_there c.args.vertices.now c.args.indices.now _ (all_reach _ c.args.indices.now c.requires.indices_value) c.args.eye c.args.seen.now
-    ∙ look_needed c.args.mode _ c.needs_of-needs.ensures c.if-needs.true c.args.eye c.args.vertices.now c.args.indices.now c.args.seen.now
+    c.see.ensures ∙ seen_there c.args.mesh.vertices.now c.args.mesh.indices.now _ (all_reach _ c.args.mesh.indices.now c.args.mesh.below) c.args.eye c.args.seen.now
+    ∙ look_needed c.args.mode _ c.needs_of-needs.ensures c.if-needs.true c.args.eye c.args.mesh.vertices.now c.args.mesh.indices.now c.args.seen.now
 
 pub returns-else-needs : goal.returns-else-needs
-returns-else-needs c = look_spared c.args.mode _ c.needs_of-needs.ensures c.if-needs.false c.args.eye c.args.vertices.now c.args.indices.now c.args.seen.now
+returns-else-needs c = look_spared c.args.mode _ c.needs_of-needs.ensures c.if-needs.false c.args.eye c.args.mesh.vertices.now c.args.mesh.indices.now c.args.seen.now

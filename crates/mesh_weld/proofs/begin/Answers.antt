@@ -1,13 +1,9 @@
 -- `begin` meets its contract: what lies ahead is what the bucket of the cell holds.
 use mathlib.Core.Path.{ap}
 use Prim.Native.Nat.{ℕ}
-use native.Mathlib.Omega.{arith}
 use lib.ListN.{get_or}
 use Rattle.mesh_weld.specs.InnerTable.{way_at, way_of, cube}
 use Rattle.mesh_weld.proofs.begin.Goals as goal
-
-pub overflow_cast-result : goal.overflow_cast-result
-overflow_cast-result c = omega (arith, c.shared_slice_known-2-1.given c.bucket-at.result)
 
 pub returns : goal.returns
 unfolding way_of

@@ -1,37 +1,16 @@
-use mathlib.Core.Path.{refl}
 use native.Mathlib.Omega.{arith}
-use Rattle.mesh_weld.proofs.Walks.{number, further, within, seek_start, seek_turn, seek_end}
+use Rattle.mesh_weld.proofs.Walks.{number, further, within, seek_turn, seek_end}
 use Rattle.mesh_weld.proofs.end.Goals as goal
-
-pub bounds-scratch-at : goal.bounds-scratch-at
-bounds-scratch-at c = omega arith
-
-pub overflow_cast-next : goal.overflow_cast-next
-overflow_cast-next c = omega (arith, c.shared_slice_known-2-1.given c.bucket-at.result)
-
-pub loop-next-init : goal.loop-next-init
-loop-next-init c = seek_start c.args.scratch.now c.args.g.buckets c.args.g.count c.args.home c.bucket-at.result _ c.bucket-at.ensures.0 c.bucket-at.ensures.1 refl
-
-pub overflow_sub-next : goal.overflow_sub-next
-overflow_sub-next c = omega arith
 
 pub link-at-requires : goal.link-at-requires
 link-at-requires c =
     let n = number c.args.scratch.now c.args.g.buckets c.args.g.count c.loop-next.at c.loop-next.next c.requires.older c.loop-next.invariant.slot c.loop-next-test.true in
-    (omega arith, omega arith)
-
-pub offset_bounds-scratch-at-in-loop-next : goal.offset_bounds-scratch-at-in-loop-next
-offset_bounds-scratch-at-in-loop-next c =
-    let n = number c.args.scratch.now c.args.g.buckets c.args.g.count c.loop-next.at c.loop-next.next c.requires.older c.loop-next.invariant.slot c.loop-next-test.true in
-    omega (arith, c.link-at.ensures, c.requires.count_in_bounds)
+    omega arith
 
 pub bounds-scratch-at-in-loop-next : goal.bounds-scratch-at-in-loop-next
 bounds-scratch-at-in-loop-next c =
     let w = within c.args.scratch.now c.args.g.buckets c.args.g.count c.loop-next.at c.loop-next.next c.requires.older c.loop-next.invariant.slot c.loop-next-test.true c.loop-next.q in
     omega (arith, c.link-at.ensures)
-
-pub overflow_cast-next-in-loop-next : goal.overflow_cast-next-in-loop-next
-overflow_cast-next-in-loop-next c = omega (arith, c.shared_slice_known-in-loop-next-1.given c.link-at.result)
 
 pub loop-next-smaller : goal.loop-next-smaller
 loop-next-smaller c =

@@ -14,7 +14,7 @@ pub overflow_sub-v : goal.overflow_sub-v
 overflow_sub-v c = omega (arith, (close_some c.args.vertices.now c.args.p c.args.w (λ e. c.if-is_close-eq0.false (c.requires.is_close_value.0 ∙ e))).0)
 
 pub score-requires : goal.score-requires
-score-requires c = record { counted = (c.requires.counted.0, c.requires.counted.1); i_bound = (omega (arith, c.requires.counted.2), rw c.point_at.ensures (close_some c.args.vertices.now c.args.p c.args.w (λ e. c.if-is_close-eq0.false (c.requires.is_close_value.0 ∙ e))).1) }
+score-requires c = record { c_value = c.requires.c_value.0; i_bound = (omega (arith, c.requires.c_value.1), rw c.point_at.ensures (close_some c.args.vertices.now c.args.p c.args.w (λ e. c.if-is_close-eq0.false (c.requires.is_close_value.0 ∙ e))).1) }
 
 pub returns : goal.returns
 unfolding score_at

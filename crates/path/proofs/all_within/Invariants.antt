@@ -2,14 +2,11 @@
 -- from i on they decide what all decide; the numbers that are left fall.
 use mathlib.Core.Bool.{◌&&◌}
 use mathlib.Core.Path.{◌≡◌}
-use Prim.Native.Nat.{◌-◌, ◌≤◌}
-use lib.ListN.{length, drop}
+use Prim.Native.Nat.{◌≤◌}
+use lib.ListN.{drop}
 use lib.Dec.{eqb}
 use Rattle.path.specs.Tests.{all_within}
 use Rattle.path.proofs.all_within.Given as goal
 
-abbrev pub invariant-loop-i : goal.invariant-loop-i
-invariant-loop-i l = (l.i ≤ length l.xs) × (l.bad ≤ l.i) × (eqb l.bad 0 && all_within l.most (drop l.i l.xs) ≡ all_within l.most l.xs)
-
-abbrev pub decreases-loop-i : goal.decreases-loop-i
-decreases-loop-i l = length l.xs - l.i
+abbrev pub invariant-loop-x : goal.invariant-loop-x
+invariant-loop-x l = (l.bad ≤ l.x-index) × (eqb l.bad 0 && all_within l.most (drop l.x-index l.xs) ≡ all_within l.most l.xs)

@@ -22,12 +22,6 @@ overflow_cast-s c = omega (arith, c.shared_slice_known-in-loop-i-1.given c.loop-
 pub returns-then-n-s : goal.returns-then-n-s
 returns-then-n-s c = cc (good-past c.args.n c.loop-i.prev c.args.starts.now c.loop-i.i (search rules) (search rules) (search rules))
 
-pub overflow_add-i : goal.overflow_add-i
-overflow_add-i c = omega arith
-
-pub loop-i-smaller : goal.loop-i-smaller
-loop-i-smaller c = omega arith
-
 pub loop-i-preserved : goal.loop-i-preserved
 loop-i-preserved c = (omega arith, cc (good_turn c.args.n c.loop-i.prev c.args.starts.now c.loop-i.i (search rules) (search rules) (search rules)))
 

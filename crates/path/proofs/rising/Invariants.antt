@@ -2,12 +2,9 @@
 -- the first; the starts that are left fall.
 use Rattle.path.specs.Strokes.{good_from, good_starts}
 use lib.ListN.{length, drop}
-use Prim.Native.Nat.{◌-◌, ◌≤◌}
+use Prim.Native.Nat.{◌≤◌}
 use mathlib.Core.Path.{◌≡◌}
 use Rattle.path.proofs.rising.Given as goal
 
 abbrev pub invariant-loop-i : goal.invariant-loop-i
 invariant-loop-i l = (l.i ≤ length l.starts) × (good_from l.n l.prev (drop l.i l.starts) ≡ good_starts l.n l.starts)
-
-abbrev pub decreases-loop-i : goal.decreases-loop-i
-decreases-loop-i l = length l.starts - l.i

@@ -10,25 +10,28 @@ use Rattle.path_adaptive.specs.Call.{adaptive_left}
 use Rattle.path.specs.Call.{laid}
 use mathlib.Core.List.{[], ◌∷◌}
 use Prim.Native.Nat.{ℕ}
+use Rattle.std.proofs.lemmas.Result.{err_from_is_err_and}
 use native.Mathlib.Omega.{arith}
 use mathlib.Core.Path.{refl, sym, ap, ◌∙◌}
 use Rattle.path_adaptive.proofs.chop_adaptive.Goals as goal
 
-pub write_strokes-w-requires : goal.write_strokes-w-requires
-write_strokes-w-requires c =
-    let h = accepted-at c.args.points.now c.args.starts.now c.args.matrix c.args.width c.args.height c.args.step c.args.tolerance _ _ c.view_of-view.ensures (sym c.adaptive_verdict-v.ensures ∙ c.in-Accepted.is) in
+pub write_strokes-requires : goal.write_strokes-requires
+write_strokes-requires c =
+    let h = accepted-at c.args.points.now c.args.starts.now c.args.matrix c.args.width c.args.height c.args.step c.args.tolerance _ _ c.view_of-view.ensures (sym c.adaptive_verdict.ensures ∙ c.in_ok-adaptive_verdict.was) in
     (h.calm, h.few, omega (arith, h.strokes), h.halvings)
 
-pub returns-in-Accepted : goal.returns-in-Accepted
+pub returns : goal.returns
 unfolding adaptive_left
-returns-in-Accepted c =
-    let z = sym c.adaptive_verdict-v.ensures ∙ c.in-Accepted.is in
-    let e = c.write_strokes-w.ensures.0 ∙ ap (λ (x : View). push_all put_points (out c.args.out_points.now c.args.out_starts.now front) (adapted (walks_of x c.args.points.now c.args.starts.now))) c.view_of-view.ensures in
-    let n = c.write_strokes-w.ensures.1 ∙ ap (λ (x : View). halvings_of (walks_of x c.args.points.now c.args.starts.now)) c.view_of-view.ensures in
+returns c =
+    let z = sym c.adaptive_verdict.ensures ∙ c.in_ok-adaptive_verdict.was in
+    let e = c.write_strokes.ensures.0 ∙ ap (λ (x : View). push_all put_points (out c.args.out_points.now c.args.out_starts.now front) (adapted (walks_of x c.args.points.now c.args.starts.now))) c.view_of-view.ensures in
+    let n = c.write_strokes.ensures.1 ∙ ap (λ (x : View). halvings_of (walks_of x c.args.points.now c.args.starts.now)) c.view_of-view.ensures in
     let h = accepted-at c.args.points.now c.args.starts.now c.args.matrix c.args.width c.args.height c.args.step c.args.tolerance _ _ refl z in
     let ws = walks_of (view_of c.args.matrix c.args.width c.args.height c.args.step c.args.tolerance) c.args.points.now c.args.starts.now in
     accept _ _ _ z (wrote_all _ _ c.args.out_points.now c.args.out_starts.now _ e h.fit h.start_fit ∙ ap (λ (x : ℕ). laid (x ∷ []) (adapted ws) c.args.out_points.now c.args.out_starts.now) n)
 
-pub returns-in-Refused : goal.returns-in-Refused
+pub returns-in_err-adaptive_verdict : goal.returns-in_err-adaptive_verdict
 unfolding adaptive_left
-returns-in-Refused c = refuse _ _ _ _ (sym c.in-Refused.is ∙ c.adaptive_verdict-v.ensures)
+returns-in_err-adaptive_verdict c =
+    let p = err_from_is_err_and c.from_residual.result c.from_residual.ensures.1 in
+    rw (p.1, p.2) (refuse _ _ _ _ (sym c.in_err-adaptive_verdict.was ∙ c.adaptive_verdict.ensures))

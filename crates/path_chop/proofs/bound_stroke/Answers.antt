@@ -8,38 +8,23 @@ use lib.Ieee.{Float}
 use Rattle.path.specs.Strokes.{point_at, gather}
 use Rattle.path_chop.specs.Chop.{too_many, steps_of, chopped}
 use Rattle.path_chop.specs.InnerCounts.{capped}
-use Rattle.path_chop.proofs.Counts.{kept-zero, kept-one, cap_under, cap_most}
+use Rattle.path_chop.proofs.Counts.{kept-no, kept-yes, cap_under, cap_most}
 use Rattle.path_chop.proofs.Chops.{reach_count, stroke_short, chopped-length}
-use Rattle.path_chop.proofs.Bounds.{product, stroke_bound}
+use Rattle.path_chop.proofs.Bounds.{stroke_bound}
 use Rattle.path_chop.proofs.bound_stroke.Goals as goal
 
-pub returns-then-kept-eq0 : goal.returns-then-kept-eq0
-returns-then-kept-eq0 c =
-    let z = stroke_short c.args.step (point_at c.args.points.now) c.args.a c.args.e (kept-zero (c.args.e - c.args.a) (sym c.kept.ensures ∙ c.if-kept-eq0.true)) in
+pub returns-then-not-kept : goal.returns-then-not-kept
+returns-then-not-kept c =
+    let z = stroke_short c.args.step (point_at c.args.points.now) c.args.a c.args.e (kept-no (c.args.e - c.args.a) (sym c.kept.ensures ∙ c.if-not-kept.true)) in
     let k : c.args.so_far + length (chopped too_many c.args.step (gather (point_at c.args.points.now) c.args.a (c.args.e - c.args.a))) ≡ c.args.so_far = omega arith in
     (le_of_eq (ap capped k ∙ cap_under c.args.so_far c.requires), c.requires)
-
-pub overflow_add-a : goal.overflow_add-a
-overflow_add-a c = omega (arith, kept-one (c.args.e - c.args.a) (λ z. c.if-kept-eq0.false (c.kept.ensures ∙ z)))
-
-pub overflow_add-k : goal.overflow_add-k
-overflow_add-k c = omega (arith, kept-one (c.args.e - c.args.a) (λ z. c.if-kept-eq0.false (c.kept.ensures ∙ z)))
-
-pub overflow_sub-k : goal.overflow_sub-k
-overflow_sub-k c = omega (arith, kept-one (c.args.e - c.args.a) (λ z. c.if-kept-eq0.false (c.kept.ensures ∙ z)))
 
 pub returns-then-n-k : goal.returns-then-n-k
 returns-then-n-k c = (cap_most _, omega arith)
 
-pub overflow_mul-k : goal.overflow_mul-k
-overflow_mul-k c = omega (arith, product _ _ c.if-n-k.false)
-
-pub overflow_add-so_far-2 : goal.overflow_add-so_far-2
-overflow_add-so_far-2 c = omega (arith, product _ _ c.if-n-k.false)
-
 pub returns : goal.returns
 returns c =
-    let two = kept-one (c.args.e - c.args.a) (λ z. c.if-kept-eq0.false (c.kept.ensures ∙ z)) in
+    let two = kept-yes (c.args.e - c.args.a) (sym c.kept.ensures ∙ c.if-not-kept.false) in
     let l = chopped-length c.args.step (point_at c.args.points.now) c.args.a c.args.e (omega arith) _ c.point_at.ensures in
     let m = c.longest-most.ensures c.args.step in
     let n = c.count_steps-n.ensures.0 ∙ ap (λ (z : Float). length (steps_of (too_many - c.args.so_far) z c.args.step c.args.step)) c.reach.ensures ∙ reach_count (too_many - c.args.so_far) c.args.step _ in

@@ -3,7 +3,6 @@ use mathlib.Core.Path.{ap, ◌∙◌}
 use mathlib.Core.List.{List}
 use native.Mathlib.Nat.{le_trans, le_of_eq}
 use native.Mathlib.Omega.{arith}
-use Prim.Native.Nat.{zero-le}
 use lib.ListN.{length, get_or}
 use Rattle.vector.specs.declared.Vector.{Vector}
 use Rattle.path.specs.Strokes.{point_at}
@@ -14,29 +13,17 @@ use Rattle.path_chop.proofs.Chops.{chopped-more, chopped-none}
 use Rattle.path_chop.proofs.Bounds.{bound_turn}
 use Rattle.path_chop.proofs.bound_strokes.Goals as goal
 
-pub loop-j-init : goal.loop-j-init
-loop-j-init c = (zero-le, zero-le, le_of_eq (ap capped (omega arith)))
-
 pub returns-then-n-gt-MOST_POINTS : goal.returns-then-n-gt-MOST_POINTS
 returns-then-n-gt-MOST_POINTS c = (cap_most _, omega arith)
-
-pub overflow_cast-a : goal.overflow_cast-a
-overflow_cast-a c = omega (arith, c.shared_slice_known-in-loop-j-1.given c.loop-j.j)
-
-pub overflow_add-j : goal.overflow_add-j
-overflow_add-j c = omega arith
-
-pub loop-j-smaller : goal.loop-j-smaller
-loop-j-smaller c = omega arith
 
 pub loop-j-preserved : goal.loop-j-preserved
 loop-j-preserved c =
     let m = chopped-more c.args.step c.args.points.now c.args.starts.now c.loop-j.j c.end_of-e.result (search rules) c.end_of-e.ensures in
     let j = joined-count c.args.step (point_at c.args.points.now) (get_or c.args.starts.now c.loop-j.j 0) c.end_of-e.result m in
-    (omega arith, c.bound_stroke-n.ensures.1, bound_turn c.loop-j.n _ _ _ _ _ c.bound_stroke-n.ensures.0 j c.loop-j.invariant.2)
+    (c.bound_stroke-n.ensures.1, bound_turn c.loop-j.n _ _ _ _ _ c.bound_stroke-n.ensures.0 j c.loop-j.invariant.1)
 
 pub returns : goal.returns
 unfolding joined
 returns c =
     let z = ap (λ (x : List (List Vector)). length (joined x)) (chopped-none c.args.step c.args.points.now c.args.starts.now c.loop-j.j (search rules)) in
-    (le_trans c.loop-j.invariant.2 (le_of_eq (ap capped (omega arith) ∙ cap_under c.loop-j.n c.loop-j.invariant.1)), c.loop-j.invariant.1)
+    (le_trans c.loop-j.invariant.1 (le_of_eq (ap capped (omega arith) ∙ cap_under c.loop-j.n c.loop-j.invariant.0)), c.loop-j.invariant.0)

@@ -12,26 +12,8 @@ use native.Mathlib.Omega.{arith}
 use mathlib.Core.Path.{refl, sym, ap, ◌∙◌}
 use Rattle.path_chop.proofs.count_spans.Goals as goal
 
-pub loop-j-init : goal.loop-j-init
-loop-j-init c = (omega arith, refl)
-
 pub returns-then-n-gt-MOST_POINTS : goal.returns-then-n-gt-MOST_POINTS
 returns-then-n-gt-MOST_POINTS c = sym (cap_over (c.loop-j.n + _) (omega arith)) ∙ c.loop-j.invariant.1
-
-pub overflow_sub-n : goal.overflow_sub-n
-overflow_sub-n c = omega arith
-
-pub overflow_add-n : goal.overflow_add-n
-overflow_add-n c = omega arith
-
-pub overflow_add-n-in-loop-j : goal.overflow_add-n-in-loop-j
-overflow_add-n-in-loop-j c = omega arith
-
-pub overflow_add-j : goal.overflow_add-j
-overflow_add-j c = omega arith
-
-pub loop-j-smaller : goal.loop-j-smaller
-loop-j-smaller c = omega arith
 
 pub loop-j-preserved : goal.loop-j-preserved
 loop-j-preserved c =

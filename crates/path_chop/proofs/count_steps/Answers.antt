@@ -1,19 +1,9 @@
 use borrow.Author.Rules.{rules}
 use Rattle.path_chop.proofs.Chops.{steps_more, steps_stop, steps_none}
 use lib.ListN.{length}
-use Prim.Native.Nat.{◌-◌}
 use native.Mathlib.Omega.{arith}
-use mathlib.Core.Path.{◌≡◌, ap}
+use mathlib.Core.Path.{ap}
 use Rattle.path_chop.proofs.count_steps.Goals as goal
-
-pub loop-n-init : goal.loop-n-init
-loop-n-init c = let z : c.args.most - 0 ≡ c.args.most = omega arith in (omega arith, rw z (omega arith))
-
-pub overflow_add-n : goal.overflow_add-n
-overflow_add-n c = omega arith
-
-pub loop-n-smaller : goal.loop-n-smaller
-loop-n-smaller c = omega arith
 
 pub loop-n-preserved : goal.loop-n-preserved
 loop-n-preserved c = omega (arith, ap length (steps_more c.loop-n.n c.args.most c.args.l c.args.step c.loop-n.d (search rules) (search rules)))

@@ -2,7 +2,6 @@ use borrow.Author.Rules.{rules}
 use mathlib.Core.Path.{sym, ap, ◌∙◌}
 use mathlib.Core.List.{List}
 use native.Mathlib.Omega.{arith}
-use Prim.Native.Nat.{zero-le}
 use lib.ListN.{length, get_or}
 use Rattle.vector.specs.declared.Vector.{Vector}
 use Rattle.path.specs.Strokes.{point_at}
@@ -12,27 +11,15 @@ use Rattle.path_chop.proofs.Counts.{joined-count, capped-turn, cap_most, cap_und
 use Rattle.path_chop.proofs.Chops.{chopped-more, chopped-none}
 use Rattle.path_chop.proofs.count_strokes.Goals as goal
 
-pub loop-j-init : goal.loop-j-init
-loop-j-init c = (zero-le, zero-le, ap capped (omega arith))
-
-pub overflow_cast-a : goal.overflow_cast-a
-overflow_cast-a c = omega (arith, c.shared_slice_known-in-loop-j-1.given c.loop-j.j)
-
-pub overflow_add-j : goal.overflow_add-j
-overflow_add-j c = omega arith
-
-pub loop-j-smaller : goal.loop-j-smaller
-loop-j-smaller c = omega arith
-
 pub loop-j-preserved : goal.loop-j-preserved
 loop-j-preserved c =
     let m = chopped-more c.args.step c.args.points.now c.args.starts.now c.loop-j.j c.end_of-e.result (search rules) c.end_of-e.ensures in
     let j = joined-count c.args.step (point_at c.args.points.now) (get_or c.args.starts.now c.loop-j.j 0) c.end_of-e.result m in
-    (omega arith, rw c.count_stroke-n.ensures (cap_most _), capped-turn c.loop-j.n _ _ _ _ c.count_stroke-n.ensures j ∙ c.loop-j.invariant.2)
+    (rw c.count_stroke-n.ensures (cap_most _), capped-turn c.loop-j.n _ _ _ _ c.count_stroke-n.ensures j ∙ c.loop-j.invariant.1)
 
 pub returns : goal.returns
 unfolding joined
 returns c =
     let z = chopped-none c.args.step c.args.points.now c.args.starts.now c.loop-j.j (search rules) in
     let zj = ap (λ (x : List (List Vector)). length (joined x)) z in
-    sym (cap_under c.loop-j.n (search rules)) ∙ ap capped (omega arith) ∙ c.loop-j.invariant.2
+    sym (cap_under c.loop-j.n (search rules)) ∙ ap capped (omega arith) ∙ c.loop-j.invariant.1

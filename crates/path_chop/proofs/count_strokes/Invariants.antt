@@ -1,7 +1,7 @@
 -- `count_strokes` meets its contract. The points counted and those of the strokes from the j-th on are those of all,
--- but for what passes the limit; the strokes that are left fall.
+-- but for what passes the limit.
 use mathlib.Core.Path.{◌≡◌}
-use Prim.Native.Nat.{◌+◌, ◌-◌, ◌≤◌}
+use Prim.Native.Nat.{◌+◌, ◌≤◌}
 use lib.ListN.{length, drop}
 use Rattle.path.specs.Laid.{joined}
 use Rattle.path_chop.specs.Chop.{too_many, chopped_of}
@@ -9,7 +9,4 @@ use Rattle.path_chop.specs.InnerCounts.{capped}
 use Rattle.path_chop.proofs.count_strokes.Given as goal
 
 abbrev pub invariant-loop-j : goal.invariant-loop-j
-invariant-loop-j l = (l.j ≤ length l.starts) × (l.n ≤ too_many) × (capped (l.n + length (joined (chopped_of l.step l.points (drop l.j l.starts)))) ≡ capped (length (joined (chopped_of l.step l.points l.starts))))
-
-abbrev pub decreases-loop-j : goal.decreases-loop-j
-decreases-loop-j l = length l.starts - l.j
+invariant-loop-j l = (l.n ≤ too_many) × (capped (l.n + length (joined (chopped_of l.step l.points (drop l.j l.starts)))) ≡ capped (length (joined (chopped_of l.step l.points l.starts))))

@@ -7,12 +7,6 @@ use Rattle.path_chop.proofs.longest.Goals as goal
 pub loop-j-init : goal.loop-j-init
 loop-j-init c = (le_refl c.args.i, omega arith, zero_root, λ step. longest_start c.args.i _ _)
 
-pub overflow_add-j : goal.overflow_add-j
-overflow_add-j c = omega arith
-
-pub loop-j-smaller : goal.loop-j-smaller
-loop-j-smaller c = omega arith
-
 pub loop-j-preserved : goal.loop-j-preserved
 loop-j-preserved c =
     let v = c.sub.result in

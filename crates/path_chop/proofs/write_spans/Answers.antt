@@ -5,14 +5,8 @@ use Rattle.vector.specs.Vectors.{sub_of}
 use Rattle.path.specs.Strokes.{point_at}
 use Rattle.path.specs.Courses.{course}
 use native.Mathlib.Omega.{arith}
-use mathlib.Core.Path.{refl, sym, ap, ◌∙◌}
+use mathlib.Core.Path.{sym, ap, ◌∙◌}
 use Rattle.path_chop.proofs.write_spans.Goals as goal
-
-pub loop-j-init : goal.loop-j-init
-loop-j-init c = (refl, refl, c.sub-v.ensures ∙ ap (λ (z : Vector). sub_of z c.args.first) c.point_at.ensures, reach_is c.args.step _ _ _ c.length_squared.ensures c.reach-l.ensures)
-
-pub overflow_add-j : goal.overflow_add-j
-overflow_add-j c = omega arith
 
 pub write_span-o-requires : goal.write_span-o-requires
 write_span-o-requires c = (
@@ -20,12 +14,6 @@ write_span-o-requires c = (
   c.loop-j.invariant.3,
   omega (arith, spans-room c.args.step (point_at c.args.points.now) c.loop-j.j c.args.e c.loop-j.p (search rules) _ c.point_at-q.ensures (course c.loop-j.out c.loop-j.o) (course c.args.out.now c.args.at) _ c.loop-j.invariant.1),
 )
-
-pub overflow_add-j-in-loop-j : goal.overflow_add-j-in-loop-j
-overflow_add-j-in-loop-j c = omega arith
-
-pub loop-j-smaller : goal.loop-j-smaller
-loop-j-smaller c = omega (arith, c.loop-j-test.true)
 
 pub loop-j-preserved : goal.loop-j-preserved
 loop-j-preserved c = (

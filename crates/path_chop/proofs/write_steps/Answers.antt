@@ -4,20 +4,11 @@ use Rattle.path_chop.proofs.Chops.{steps_turn, steps_room, steps_halt, steps_end
 use Rattle.path.specs.Courses.{course}
 use Rattle.path_chop.specs.Chop.{too_many, along, steps_of}
 use native.Mathlib.Omega.{arith}
-use mathlib.Core.Path.{refl, sym, ap, ◌∙◌}
+use mathlib.Core.Path.{sym, ap, ◌∙◌}
 use Rattle.path_chop.proofs.write_steps.Goals as goal
-
-pub loop-n-init : goal.loop-n-init
-loop-n-init c = (omega arith, refl, refl)
-
-pub overflow_add-n : goal.overflow_add-n
-overflow_add-n c = omega arith
 
 pub overflow_add-o : goal.overflow_add-o
 overflow_add-o c = omega (arith, steps_room (along c.args.a c.args.v c.args.l) c.loop-n.n too_many c.args.l c.args.step c.loop-n.d c.loop-n.out c.loop-n.o (search rules) (search rules) (course c.args.out.now c.args.at) (steps_of too_many c.args.l c.args.step c.args.step) c.loop-n.invariant.2)
-
-pub loop-n-smaller : goal.loop-n-smaller
-loop-n-smaller c = omega arith
 
 pub loop-n-preserved : goal.loop-n-preserved
 loop-n-preserved c =

@@ -8,28 +8,19 @@ use mathlib.Core.Path.{refl, sym, ap, ◌∙◌}
 use Rattle.path_chop.proofs.write_strokes.Goals as goal
 
 pub loop-i-init : goal.loop-i-init
-loop-i-init c = (zero-le, zero-le, refl, refl, refl)
-
-pub overflow_cast-a : goal.overflow_cast-a
-overflow_cast-a c = omega (arith, c.shared_slice_known-in-loop-i-1.given c.loop-i.i)
+loop-i-init c = (zero-le, refl, refl, refl)
 
 pub write_stroke-p-requires : goal.write_stroke-p-requires
 write_stroke-p-requires c =
     let m = chopped-more c.args.step c.args.points.now c.args.starts.now c.loop-i.i _ (search rules) c.end_of-e.ensures in
     let o = out c.loop-i.out_points c.loop-i.out_starts c.loop-i.p in
-    let r = push-room put_points o _ _ _ _ (ap (push_all put_points o) (sym m) ∙ c.loop-i.invariant.4) refl in
+    let r = push-room put_points o _ _ _ _ (ap (push_all put_points o) (sym m) ∙ c.loop-i.invariant.3) refl in
     omega arith
-
-pub overflow_add-i : goal.overflow_add-i
-overflow_add-i c = omega arith
-
-pub loop-i-smaller : goal.loop-i-smaller
-loop-i-smaller c = omega arith
 
 pub loop-i-preserved : goal.loop-i-preserved
 loop-i-preserved c =
     let m = chopped-more c.args.step c.args.points.now c.args.starts.now c.loop-i.i _ (search rules) c.end_of-e.ensures in
-    (omega arith, omega (arith, push-starts put_points (out c.loop-i.out_points c.loop-i.out_starts c.loop-i.p) _ _ c.write_stroke-p.ensures), cc, cc, push-turn put_points _ _ m c.write_stroke-p.ensures ∙ c.loop-i.invariant.4)
+    (omega (arith, push-starts put_points (out c.loop-i.out_points c.loop-i.out_starts c.loop-i.p) _ _ c.write_stroke-p.ensures), cc, cc, push-turn put_points _ _ m c.write_stroke-p.ensures ∙ c.loop-i.invariant.3)
 
 pub returns : goal.returns
-returns c = sym (push-end put_points _ (chopped-none c.args.step c.args.points.now c.args.starts.now c.loop-i.i (search rules))) ∙ c.loop-i.invariant.4
+returns c = sym (push-end put_points _ (chopped-none c.args.step c.args.points.now c.args.starts.now c.loop-i.i (search rules))) ∙ c.loop-i.invariant.3

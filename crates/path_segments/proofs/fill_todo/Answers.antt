@@ -1,22 +1,16 @@
-use mathlib.Core.Path.{refl, sym, ◌∙◌}
-use Prim.Native.Nat.{◌*◌}
+-- `fill_todo` meets its contract.
+use mathlib.Core.Path.{◌≡◌, sym, ap, ◌∙◌}
+use Prim.Native.Nat.{ℕ, ◌*◌, ◌-◌}
 use native.Mathlib.Omega.{arith}
-use lib.ListN.{length-set}
-use Rattle.path_segments.proofs.Joins.{fill_none, fill_turn, fill_end}
+use lib.ListN.{length, replicate, length-replicate}
+use Rattle.order.specs.Regions.{put}
+use Rattle.order.proofs.Parts.{length-region, put-lent}
 use Rattle.path_segments.proofs.fill_todo.Goals as goal
-
-pub loop-i-init : goal.loop-i-init
-loop-i-init c = (omega arith, refl, fill_none c.args.s.now (6 * c.args.n) c.args.n)
-
-pub loop-i-preserved : goal.loop-i-preserved
-loop-i-preserved c =
-    let n = c.args.n in
-    (omega arith, rw length-set c.loop-i.invariant.1, fill_turn c.loop-i.s (6 * n) n c.loop-i.i c.loop-i-test.true ∙ c.loop-i.invariant.2)
-
-pub shape_of-s : goal.shape_of-s
-shape_of-s c = c.loop-i.invariant.1
 
 pub returns : goal.returns
 returns c =
+    let s = c.args.s.now in
     let n = c.args.n in
-    sym (fill_end c.loop-i.s (6 * n) n c.loop-i.i c.loop-i-test.false) ∙ c.loop-i.invariant.2
+    let k : 7 * n - 6 * n ≡ n = omega arith in
+    let e : c.fill.new.self ≡ replicate n 1 = c.fill.ensures.after (λ y h. h) ∙ ap (λ (z : ℕ). replicate z 1) (length-region s (6 * n) (7 * n - 6 * n) (omega arith) ∙ k) in
+    put-lent s (6 * n) (7 * n - 6 * n) c.fill.new.self (ap length e ∙ length-replicate {A = ℕ} n 1 ∙ sym k) (omega arith) ∙ ap (put s (6 * n)) e

@@ -15,6 +15,3 @@ returns-then-d-l2 c =
     let long = lt-through zero64 c.args.d c.args.l2 some less (beyond-no_nan c.args.d c.args.l2 c.if-d-l2.true) in
     let w = within c.args.d c.args.l2 some long less in
     (above-not_level c.args.l2 long, w.0, w.1)
-
-pub returns : goal.returns
-returns c = λ e. absurd (subst T (sym e) tt)

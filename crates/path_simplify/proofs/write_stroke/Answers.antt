@@ -13,13 +13,12 @@ use Rattle.path_simplify.proofs.write_stroke.Goals as goal
 pub returns-then-e-a : goal.returns-then-e-a
 returns-then-e-a c =
     let z = thinned-none c.args.threshold (point_at c.args.points.now) c.args.a c.args.e c.if-e-a.true in
-    (sym (push-none put_points _ _ (ap (λ (x : Thin). length x.points) z)), omega (arith, ap (λ (x : Thin). x.measured) z), c.requires.1)
+    (sym (push-none put_points _ _ (ap (λ (x : Thin). length x.points) z)), omega (arith, ap (λ (x : Thin). x.measured) z))
 
 pub returns : goal.returns
 returns c =
     let at = point_at c.args.points.now in (
-      rw c.put_number.ensures
-          (push-course put_points (out c.args.out_points.now c.args.out_starts.now (places_in c.args.w)) _ (omega (arith, thinned-length c.args.threshold at c.args.a c.args.e (omega arith))) _ _ c.write_thinned-t.ensures.0),
-      omega (arith, c.write_thinned-t.ensures.1),
-      c.write_thinned-t.ensures.2,
+      rw c.put.ensures
+          (push-course put_points (out c.args.out_points.now c.args.out_starts.now (places_in c.args.w)) _ (omega (arith, thinned-length c.args.threshold at c.args.a c.args.e (omega arith))) _ _ c.write_thinned.ensures.0),
+      omega (arith, c.write_thinned.ensures.2),
     )

@@ -1,17 +1,17 @@
+-- `write_backward` meets its contract.
+use mathlib.Core.Path.{◌≡◌, sym, ◌∙◌}
+use Prim.Native.Nat.{◌+◌, ◌-◌}
 use native.Mathlib.Omega.{arith}
-use mathlib.Core.Path.{refl, sym, ◌∙◌}
-use lib.ListN.{length-set}
 use Rattle.path_splice.proofs.Tables.{backward_turn, backward_end}
 use Rattle.path_splice.proofs.write_backward.Goals as goal
 
-pub loop-i-init : goal.loop-i-init
-loop-i-init c = (omega arith, omega arith, refl, refl, refl)
-
 pub loop-i-preserved : goal.loop-i-preserved
-loop-i-preserved c = (omega arith, omega arith, omega arith, rw length-set c.loop-i.invariant.3, backward_turn c.args.points.now c.args.a c.loop-i.i c.loop-i.out c.loop-i.k c.loop-i-test.true (omega (arith, c.requires.1, c.loop-i.invariant.1)) ∙ c.loop-i.invariant.4)
-
-pub shape_of-out : goal.shape_of-out
-shape_of-out c = c.loop-i.invariant.3
+loop-i-preserved c =
+    let i = c.args.e - c.loop-i.i in
+    let at : c.args.at + (c.loop-i.i + 1) ≡ c.args.at + c.loop-i.i + 1 = omega arith in
+    let next : c.args.e - (c.loop-i.i + 1) ≡ i - 1 = omega arith in
+    let from : c.args.e - 1 - c.loop-i.i ≡ i - 1 = omega arith in
+    rw (at, next, from) (backward_turn c.args.points.now c.args.a i c.loop-i.out (c.args.at + c.loop-i.i) (omega arith) (omega arith)) ∙ c.loop-i.invariant
 
 pub returns : goal.returns
-returns c = sym (backward_end c.args.points.now c.args.a c.loop-i.i c.loop-i.out c.loop-i.k (omega arith)) ∙ c.loop-i.invariant.4
+returns c = sym (backward_end c.args.points.now c.args.a (c.args.e - c.loop-i.i) c.loop-i.out (c.args.at + c.loop-i.i) (omega arith)) ∙ c.loop-i.invariant

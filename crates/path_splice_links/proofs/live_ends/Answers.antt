@@ -1,20 +1,15 @@
 use native.Mathlib.Omega.{arith}
-use mathlib.Core.Path.{refl}
-use lib.ListN.{length-set}
 use Rattle.path_splice_links.proofs.Mirroring.{lives_none, lives-skip, lives-keep, lives_all}
 use Rattle.path_splice_links.proofs.live_ends.Goals as goal
 
 pub loop-e-init : goal.loop-e-init
-loop-e-init c = (omega arith, omega arith, refl, lives_none c.args.s.now c.args.n c.requires.0)
+loop-e-init c = (omega arith, lives_none c.args.s.now c.args.n c.requires.0)
 
 pub loop-e-preserved-then-s-n-eq0 : goal.loop-e-preserved-then-s-n-eq0
-loop-e-preserved-then-s-n-eq0 c = (omega arith, omega arith, c.loop-e.invariant.2, lives-skip c.args.s.now c.args.n c.requires.0 c.loop-e.s c.loop-e.e c.loop-e.k c.loop-e.invariant.3 c.loop-e-test.true (rw c.path_id-i.ensures at c.if-s-n-eq0.true))
+loop-e-preserved-then-s-n-eq0 c = (omega arith, lives-skip c.args.s.now c.args.n c.requires.0 c.loop-e.s c.loop-e.e c.loop-e.k c.loop-e.invariant.1 (omega arith) (rw c.path_id-i.ensures at c.if-s-n-eq0.true))
 
 pub loop-e-preserved : goal.loop-e-preserved
-loop-e-preserved c = (omega arith, omega arith, rw length-set c.loop-e.invariant.2, lives-keep c.args.s.now c.args.n c.requires.0 c.loop-e.s c.loop-e.e c.loop-e.k c.loop-e.invariant.3 c.loop-e-test.true (rw c.path_id-i.ensures at c.if-s-n-eq0.false))
-
-pub shape_of-s : goal.shape_of-s
-shape_of-s c = c.loop-e.invariant.2
+loop-e-preserved c = (omega arith, lives-keep c.args.s.now c.args.n c.requires.0 c.loop-e.s c.loop-e.e c.loop-e.k c.loop-e.invariant.1 (omega arith) (rw c.path_id-i.ensures at c.if-s-n-eq0.false))
 
 pub returns : goal.returns
-returns c = lives_all c.args.s.now c.args.n c.requires.0 c.loop-e.s c.loop-e.e c.loop-e.k (omega arith) c.loop-e.invariant.3
+returns c = lives_all c.args.s.now c.args.n c.requires.0 c.loop-e.s c.loop-e.e c.loop-e.k (omega arith) c.loop-e.invariant.1

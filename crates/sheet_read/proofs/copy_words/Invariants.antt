@@ -1,5 +1,4 @@
--- `copy_words` meets its contract. Storing the words from the i-th on from here leaves what storing all leaves; the
--- words that are left fall.
+-- `copy_words` meets its contract. Storing the words from the i-th on from here leaves what storing all leaves.
 use mathlib.Core.Path.{◌≡◌}
 use Prim.Native.Nat.{◌+◌, ◌-◌}
 use lib.Seq.{sets}
@@ -9,6 +8,3 @@ use Rattle.sheet_read.proofs.copy_words.Given as goal
 
 abbrev pub invariant-loop-i : goal.invariant-loop-i
 invariant-loop-i l = sets l.out l.i (gather (word_at l.bytes) (l.a + l.i) (l.n - l.i)) ≡ sets l.initial.out 0 (gather (word_at l.bytes) l.a l.n)
-
-abbrev pub decreases-loop-i : goal.decreases-loop-i
-decreases-loop-i l = l.n - l.i

@@ -1,5 +1,5 @@
 -- `strict_from` meets its contract. The words from the i-th on rise strictly above the last one passed, and stay below
--- n, where all do above s; the words that are left fall.
+-- n, where all do above s.
 use mathlib.Core.Path.{◌≡◌}
 use Prim.Native.Nat.{◌-◌}
 use Rattle.path.specs.Strokes.{gather}
@@ -8,6 +8,3 @@ use Rattle.sheet_read.proofs.strict_from.Given as goal
 
 abbrev pub invariant-loop-i : goal.invariant-loop-i
 invariant-loop-i l = strict_from l.n l.prev (gather (word_at l.bytes) l.i (l.e - l.i)) ≡ strict_from l.n l.s (gather (word_at l.bytes) l.a (l.e - l.a))
-
-abbrev pub decreases-loop-i : goal.decreases-loop-i
-decreases-loop-i l = l.e - l.i

@@ -5,22 +5,11 @@ use Rattle.sheet_salvage.specs.Salvage.{wild_in}
 use Rattle.sheet_salvage.proofs.Calls.{stroked_is, kept-starts, kept-points, few_points, salvaged-length, ignored_is, offsets_are, left_over, all_told}
 use Rattle.sheet_salvage.proofs.report.Goals as goal
 
-pub overflow_sub-numbers : goal.overflow_sub-numbers
-overflow_sub-numbers c =
-    let r = stroked_is c.args.bytes.now _ _ _ c.word_at-strokes.ensures c.taken-m.ensures.value c.stroked.ensures in
-    omega (arith, r, c.requires.bytes_value_2.0)
-
-pub overflow_cast-t : goal.overflow_cast-t
-overflow_cast-t c = omega (arith, kept-starts c.args.bytes.now c.args.t.kept c.requires.bytes_value.1, c.requires.bytes_value.2)
-
 pub overflow_add-result : goal.overflow_add-result
 overflow_add-result c = omega (arith, c.numbers_from.ensures, kept-starts c.args.bytes.now c.args.t.kept c.requires.bytes_value.1, c.requires.bytes_value.2, few_points c.args.bytes.now c.args.t.kept c.requires.bytes_value.1)
 
 pub overflow_mul-result : goal.overflow_mul-result
 overflow_mul-result c = omega (arith, c.numbers_from.ensures, kept-starts c.args.bytes.now c.args.t.kept c.requires.bytes_value.1, c.requires.bytes_value.2, few_points c.args.bytes.now c.args.t.kept c.requires.bytes_value.1)
-
-pub offsets-requires : goal.offsets-requires
-offsets-requires c = omega (arith, kept-starts c.args.bytes.now c.args.t.kept c.requires.bytes_value.1, c.requires.bytes_value.2)
 
 pub overflow_sub-result : goal.overflow_sub-result
 overflow_sub-result c =

@@ -7,6 +7,3 @@ use Rattle.sheet_salvage.proofs.salvage_sheet.Goals as goal
 pub returns-then-not-header_usable : goal.returns-then-not-header_usable
 unfolding salvage_left verdict_of unless outcome
 returns-then-not-header_usable c = rw (sym c.header_usable.ensures ∙ c.if-not-header_usable.true)
-
-pub salvage_usable-requires : goal.salvage_usable-requires
-salvage_usable-requires c = sym c.header_usable.ensures ∙ c.if-not-header_usable.false

@@ -6,9 +6,6 @@ use Rattle.sheet_salvage.proofs.Held.{taken_few}
 use Rattle.sheet_salvage.proofs.Calls.{few_strokes, saved_read, kept-starts, few_points, kept_put}
 use Rattle.sheet_salvage.proofs.write_kept.Goals as goal
 
-pub overflow_cast-kept : goal.overflow_cast-kept
-overflow_cast-kept c = omega (arith, kept-starts c.args.bytes.now c.args.kept c.requires.2, c.requires.3)
-
 pub overflow_cast-kept-2 : goal.overflow_cast-kept-2
 overflow_cast-kept-2 c = omega (arith, few_points c.args.bytes.now c.args.kept c.requires.2)
 

@@ -1,12 +1,17 @@
 -- `present` meets its contract.
-use mathlib.Core.Path.{sym, ap, ◌∙◌}
-use native.Mathlib.Omega.{arith}
+use mathlib.Core.Path.{◌≡◌, refl, ap, ◌∙◌}
+use mathlib.Core.Bool.{Bool, true, false, cond}
+use mathlib.Core.List.{[], ◌∷◌}
+use Prim.Native.Nat.{ℕ}
 use lib.ListN.{length}
-use Rattle.sheet_write.proofs.Kepts.{at_some, at_none}
+use mir.Val.{bool_byte}
+use Rattle.sheet.specs.InnerKept.{kept_at}
 use Rattle.sheet_write.proofs.present.Goals as goal
 
-pub returns-then-has_points : goal.returns-then-has_points
-returns-then-has_points c = record { value = sym (ap length (at_some c.args.n c.args.starts.now c.args.i (sym c.has_points.ensures ∙ c.if-has_points.true))); upper_bound = omega arith }
+size : (b : Bool) (s : ℕ) → bool_byte b ≡ length (cond b (s ∷ []) [])
+size true s = refl
+size false s = refl
 
-pub returns : goal.returns
-returns c = record { value = sym (ap length (at_none c.args.n c.args.starts.now c.args.i (sym c.has_points.ensures ∙ c.if-has_points.false))); upper_bound = omega arith }
+pub returns-clause-value : goal.returns-clause-value
+unfolding kept_at
+returns-clause-value c = ap bool_byte c.has_points.ensures ∙ size _ _

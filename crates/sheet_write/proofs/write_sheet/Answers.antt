@@ -2,6 +2,7 @@
 use mathlib.Core.Path.{sym, ◌∙◌}
 use native.Mathlib.Omega.{arith}
 use lib.ListN.{length}
+use Rattle.std.proofs.lemmas.Result.{err_from_is_err_and}
 use Rattle.sheet.proofs.Sizes.{words_size}
 use Rattle.sheet.specs.InnerKept.{kept_from}
 use Rattle.sheet.specs.Sheets.{mode_word}
@@ -10,20 +11,22 @@ use Rattle.refusal.proofs.Outcomes.{accept, refuse}
 use Rattle.sheet_write.proofs.Calls.{granted, sheet_is, all_written}
 use Rattle.sheet_write.proofs.write_sheet.Goals as goal
 
-pub write_all-n-requires : goal.write_all-n-requires
-write_all-n-requires c =
-    let g = granted c.args.mode c.args.vertices c.args.numbers.now c.args.starts.now _ (sym c.write_verdict-v.ensures ∙ c.in-Accepted.is) in
+pub returns-in_err-write_verdict : goal.returns-in_err-write_verdict
+unfolding write_left
+returns-in_err-write_verdict c =
+    let p = err_from_is_err_and c.from_residual.result c.from_residual.ensures.1 in
+    rw (p.1, p.2) (refuse _ _ _ _ (sym c.in_err-write_verdict.was ∙ c.write_verdict.ensures))
+
+pub write_all-requires : goal.write_all-requires
+write_all-requires c =
+    let g = granted c.args.mode c.args.vertices c.args.numbers.now c.args.starts.now _ (sym c.write_verdict.ensures ∙ c.in_ok-write_verdict.was) in
     (g.strokes, g.points)
 
-pub returns-in-Refused : goal.returns-in-Refused
+pub returns : goal.returns
 unfolding write_left
-returns-in-Refused c = refuse _ _ _ _ (sym c.in-Refused.is ∙ c.write_verdict-v.ensures)
-
-pub returns-in-Accepted : goal.returns-in-Accepted
-unfolding write_left
-returns-in-Accepted c =
-    let z = sym c.write_verdict-v.ensures ∙ c.in-Accepted.is in
+returns c =
+    let z = sym c.write_verdict.ensures ∙ c.in_ok-write_verdict.was in
     let g = granted c.args.mode c.args.vertices c.args.numbers.now c.args.starts.now _ z in
     let s = words_size (mode_word c.args.mode) c.args.vertices (kept_from (length c.args.numbers.now) c.args.starts.now) c.args.numbers.now in
     accept _ _ _ z
-    (all_written _ c.args.out.now _ _ _ (sheet_is (mode_word c.args.mode) c.args.vertices c.args.numbers.now c.args.starts.now g.table) c.write_all-n.ensures.out_after (c.write_all-n.ensures.value ∙ sym s) (omega (arith, c.write_all-n.ensures.value, g.fits)))
+    (all_written _ c.args.out.now _ _ _ (sheet_is (mode_word c.args.mode) c.args.vertices c.args.numbers.now c.args.starts.now g.table) c.write_all.ensures.out_after (c.write_all.ensures.value ∙ sym s) (omega (arith, c.write_all.ensures.value, g.fits)))

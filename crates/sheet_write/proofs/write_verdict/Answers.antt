@@ -1,9 +1,9 @@
 -- `write_verdict` meets its contract: each test is that of the definition.
+use Rattle.std.specs.Prelude.{Ok}
 use mathlib.Core.Path.{◌≡◌, sym, ap, ◌∙◌}
 use native.Mathlib.Omega.{arith}
 use lib.Dec.{ltb}
 use Rattle.refusal.specs.declared.Refusal.TheVariants.{Room}
-use Rattle.refusal.specs.declared.Verdict.TheVariants.{Accepted}
 use Rattle.refusal.specs.Refusals.{unless}
 use Rattle.sheet_write.specs.Call.{verdict_of}
 use Rattle.sheet.proofs.Modes.{word_some}
@@ -49,7 +49,7 @@ pub returns-then-not-fits : goal.returns-then-not-fits
 unfolding unless verdict_of
 returns-then-not-fits c =
     rw (
-      (let last : verdict_of c.args.mode c.args.vertices c.args.numbers.now c.args.starts.now c.args.room ≡ unless c.fits.result Room Accepted = let r = sym c.rising.ensures ∙ c.if-not-rising.false in simp (
+      (let last : verdict_of c.args.mode c.args.vertices c.args.numbers.now c.args.starts.now c.args.room ≡ unless c.fits.result Room (Ok tt) = let r = sym c.rising.ensures ∙ c.if-not-rising.false in simp (
         r,
         sym c.counts_good.ensures ∙ c.if-not-counts_good.false,
         sym c.all_below.ensures ∙ c.if-not-all_below.false,
@@ -63,7 +63,7 @@ pub returns : goal.returns
 unfolding unless verdict_of
 returns c =
     rw (
-      (let last : verdict_of c.args.mode c.args.vertices c.args.numbers.now c.args.starts.now c.args.room ≡ unless c.fits.result Room Accepted = let r = sym c.rising.ensures ∙ c.if-not-rising.false in simp (
+      (let last : verdict_of c.args.mode c.args.vertices c.args.numbers.now c.args.starts.now c.args.room ≡ unless c.fits.result Room (Ok tt) = let r = sym c.rising.ensures ∙ c.if-not-rising.false in simp (
         r,
         sym c.counts_good.ensures ∙ c.if-not-counts_good.false,
         sym c.all_below.ensures ∙ c.if-not-all_below.false,

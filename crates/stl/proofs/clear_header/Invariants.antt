@@ -7,6 +7,3 @@ use Rattle.stl.proofs.clear_header.Given as goal
 
 abbrev pub invariant-loop-i : goal.invariant-loop-i
 invariant-loop-i l = sets l.out l.i (zeros (header_bytes - l.i)) ≡ sets l.initial.out 0 (zeros header_bytes)
-
-abbrev pub decreases-loop-i : goal.decreases-loop-i
-decreases-loop-i l = header_bytes - l.i

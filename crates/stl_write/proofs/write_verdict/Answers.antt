@@ -1,65 +1,35 @@
--- `write_verdict` meets its contract: each test is that of the definition.
+-- `write_verdict` meets its contract: the mesh's tests come first.
 use mathlib.Core.Path.{sym, ◌∙◌}
+use Rattle.std.proofs.lemmas.Result.{err_from_is_err_and}
 use Rattle.refusal.specs.Refusals.{unless}
-use Rattle.stl_write.specs.Call.{verdict_of}
-use Rattle.mesh.proofs.Tests.{few_faces}
+use Rattle.mesh.proofs.Tests.{few_faces, mesh-told, mesh-passed, mesh-refused}
+use Rattle.stl_write.proofs.Calls.{mesh-first}
 use Rattle.stl_write.proofs.write_verdict.Goals as goal
 
-pub returns-then-not-shaped : goal.returns-then-not-shaped
-unfolding verdict_of unless
-returns-then-not-shaped c = simp (sym c.shaped.ensures ∙ c.if-not-shaped.true)
+pub returns-in_err-mesh_verdict : goal.returns-in_err-mesh_verdict
+returns-in_err-mesh_verdict c =
+    let p = err_from_is_err_and c.from_residual.result c.from_residual.ensures.1 in
+    rw (p.1, p.2) (sym (mesh-first _ _ _ ∙ mesh-refused _ _ _ (sym c.mesh_verdict.ensures ∙ c.in_err-mesh_verdict.was) _))
 
-pub returns-then-not-counted : goal.returns-then-not-counted
-unfolding verdict_of unless
-returns-then-not-counted c =
-    simp (
-      sym c.shaped.ensures ∙ c.if-not-shaped.false,
-      sym c.counted.ensures ∙ c.if-not-counted.true,
-    )
-
-pub returns-then-not-all_below : goal.returns-then-not-all_below
-unfolding verdict_of unless
-returns-then-not-all_below c =
-    simp (
-      sym c.shaped.ensures ∙ c.if-not-shaped.false,
-      sym c.counted.ensures ∙ c.if-not-counted.false,
-      sym c.all_below.ensures ∙ c.if-not-all_below.true,
-    )
-
-pub numbers_good-requires : goal.numbers_good-requires
-numbers_good-requires c = sym c.all_below.ensures ∙ c.if-not-all_below.false
-
-pub returns-then-not-numbers_good : goal.returns-then-not-numbers_good
-unfolding verdict_of unless
-returns-then-not-numbers_good c =
-    simp (
-      sym c.shaped.ensures ∙ c.if-not-shaped.false,
-      sym c.counted.ensures ∙ c.if-not-counted.false,
-      sym c.all_below.ensures ∙ c.if-not-all_below.false,
-      sym c.numbers_good.ensures ∙ c.if-not-numbers_good.true,
-    )
+pub invariant_of-numbers_good : goal.invariant_of-numbers_good
+invariant_of-numbers_good c = record { below = (mesh-told _ _ (sym c.mesh_verdict.ensures ∙ c.in_ok-mesh_verdict.was)).2 }
 
 pub room_for-requires : goal.room_for-requires
-room_for-requires c = few_faces _ _ (sym c.counted.ensures ∙ c.if-not-counted.false)
+room_for-requires c = few_faces _ _ (mesh-told _ _ (sym c.mesh_verdict.ensures ∙ c.in_ok-mesh_verdict.was)).1
+
+pub returns-then-not-numbers_good : goal.returns-then-not-numbers_good
+unfolding unless
+returns-then-not-numbers_good c =
+    sym (mesh-first _ _ _ ∙ mesh-passed _ _ (sym c.mesh_verdict.ensures ∙ c.in_ok-mesh_verdict.was) _ ∙ (rw (sym c.numbers_good.ensures ∙ c.if-not-numbers_good.true)))
 
 pub returns-then-not-room_for : goal.returns-then-not-room_for
-unfolding verdict_of unless
+unfolding unless
 returns-then-not-room_for c =
-    simp (
-      sym c.shaped.ensures ∙ c.if-not-shaped.false,
-      sym c.counted.ensures ∙ c.if-not-counted.false,
-      sym c.all_below.ensures ∙ c.if-not-all_below.false,
-      sym c.numbers_good.ensures ∙ c.if-not-numbers_good.false,
-      sym c.room_for.ensures ∙ c.if-not-room_for.true,
-    )
+    sym (mesh-first _ _ _ ∙ mesh-passed _ _ (sym c.mesh_verdict.ensures ∙ c.in_ok-mesh_verdict.was) _
+    ∙ (rw (sym c.numbers_good.ensures ∙ c.if-not-numbers_good.false, sym c.room_for.ensures ∙ c.if-not-room_for.true)))
 
 pub returns : goal.returns
-unfolding verdict_of unless
+unfolding unless
 returns c =
-    simp (
-      sym c.shaped.ensures ∙ c.if-not-shaped.false,
-      sym c.counted.ensures ∙ c.if-not-counted.false,
-      sym c.all_below.ensures ∙ c.if-not-all_below.false,
-      sym c.numbers_good.ensures ∙ c.if-not-numbers_good.false,
-      sym c.room_for.ensures ∙ c.if-not-room_for.false,
-    )
+    sym (mesh-first _ _ _ ∙ mesh-passed _ _ (sym c.mesh_verdict.ensures ∙ c.in_ok-mesh_verdict.was) _
+    ∙ (rw (sym c.numbers_good.ensures ∙ c.if-not-numbers_good.false, sym c.room_for.ensures ∙ c.if-not-room_for.false)))

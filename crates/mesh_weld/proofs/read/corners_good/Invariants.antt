@@ -1,13 +1,9 @@
--- `corners_good` meets its contract. Whether the corners from i on are good is whether all are; the corners that are left fall.
+-- `corners_good` meets its contract. Whether the corners from i on are good is whether all are.
 use mathlib.Core.Path.{◌≡◌}
-use Prim.Native.Nat.{◌-◌, ◌≤◌}
 use Rattle.path.specs.Tests.{coordinates_good}
 use Rattle.stl.specs.Files.{coordinates_in}
 use Rattle.mesh_weld.proofs.Files.{good_from}
 use Rattle.mesh_weld.proofs.read.corners_good.Given as goal
 
 abbrev pub invariant-loop-i : goal.invariant-loop-i
-invariant-loop-i l = (l.i ≤ l.n) × (good_from l.bytes l.i l.n ≡ coordinates_good (coordinates_in l.bytes))
-
-abbrev pub decreases-loop-i : goal.decreases-loop-i
-decreases-loop-i l = l.n - l.i
+invariant-loop-i l = (good_from l.bytes l.i l.n ≡ coordinates_good (coordinates_in l.bytes))

@@ -1,5 +1,5 @@
 -- `measure_spans` meets its contract. What the spans from place j on meet from here is what all spans meet from the
--- start; the spans that are left fall.
+-- start.
 use Rattle.path.specs.Strokes.{point_at, gather}
 use Rattle.path_adaptive.specs.Tally.{spent}
 use Rattle.path_adaptive.specs.Walk.{walk_from}
@@ -10,6 +10,3 @@ use Rattle.path_adaptive.proofs.measure.measure_spans.Given as goal
 
 abbrev pub invariant-loop-j : goal.invariant-loop-j
 invariant-loop-j l = (s : ℕ) → spent (tally_of l.k s) (walk_from l.view l.p (gather (point_at l.points) l.j (l.e - l.j))) ≡ spent (tally_of l.initial.k s) (walk_from l.view l.initial.p (gather (point_at l.points) l.i (l.e - l.i)))
-
-abbrev pub decreases-loop-j : goal.decreases-loop-j
-decreases-loop-j l = l.e - l.j

@@ -1,9 +1,17 @@
--- `terminator` meets its contract: `ends` of the screen that the numbers are.
-use mathlib.Core.Path.{ap, ◌∙◌}
-use Rattle.path_adaptive.specs.declared.View.{View}
+-- `terminator` meets its contract.
+use lib.Ieee.{Float, lt}
 use Rattle.path_adaptive.specs.Walk.{span_ends}
-use Rattle.path_adaptive.specs.InnerSpan.{shown_at}
+use mathlib.Core.Path.{sym, ap, ◌∙◌}
 use Rattle.path_adaptive.proofs.screen.terminator.Goals as goal
 
+pub returns-then-outside : goal.returns-then-outside
+unfolding span_ends
+returns-then-outside c = simp (sym c.outside.ensures ∙ c.if-outside.true)
+
+pub returns-then-distance_squared-view : goal.returns-then-distance_squared-view
+unfolding span_ends
+returns-then-distance_squared-view c = simp (sym c.outside.ensures ∙ c.if-outside.false, ap (λ (x : Float). lt x c.args.view.now.square) (sym c.distance_squared.ensures) ∙ c.if-distance_squared-view.true)
+
 pub returns : goal.returns
-returns c = c.ends.ensures ∙ ap (λ (v : View). span_ends v (shown_at c.args.a c.args.s) (shown_at c.args.b c.args.t)) c.view_at.ensures
+unfolding span_ends
+returns c = simp (sym c.outside.ensures ∙ c.if-outside.false, ap (λ (x : Float). lt x c.args.view.now.square) (sym c.distance_squared.ensures) ∙ c.if-distance_squared-view.false, sym c.distance_squared-2.ensures)

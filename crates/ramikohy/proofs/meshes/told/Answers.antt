@@ -2,11 +2,11 @@
 use mathlib.Core.Path.{sym, ap, ◌∙◌}
 use Prim.Native.Nat.{ℕ}
 use lib.ListN.{get_or}
-use Rattle.refusal.specs.Said.{Said, carried_said}
+use Rattle.refusal.specs.Said.{Said, option_said}
 use Rattle.ramikohy.proofs.meshes.told.Goals as goal
 
-pub returns-in-Face : goal.returns-in-Face
-returns-in-Face c = (c.number.ensures, ap (λ (x : Said ℕ). get_or x.values 0 c.args.face.now) (ap carried_said (sym c.in-Face.is) ∙ c.carried_by.ensures))
+pub returns-in-Some : goal.returns-in-Some
+returns-in-Some c = (c.number.ensures, ap (λ (x : Said ℕ). get_or x.values 0 c.args.face.now) (ap option_said (sym c.in-Some.is) ∙ c.carried_by.ensures))
 
-pub returns-in-Nothing : goal.returns-in-Nothing
-returns-in-Nothing c = (c.number-in-Nothing.ensures, ap (λ (x : Said ℕ). get_or x.values 0 c.args.face.now) (ap carried_said (sym c.in-Nothing.is) ∙ c.carried_by.ensures))
+pub returns-in-None : goal.returns-in-None
+returns-in-None c = (c.number-in-None.ensures, ap (λ (x : Said ℕ). get_or x.values 0 c.args.face.now) (ap option_said (sym c.in-None.is) ∙ c.carried_by.ensures))

@@ -1,8 +1,0 @@
--- `larger` meets its contract.
-use Rattle.path_chop.proofs.larger.Goals as goal
-
-pub returns-then-a-b : goal.returns-then-a-b
-returns-then-a-b c = rw c.if-a-b.true
-
-pub returns : goal.returns
-returns c = rw c.if-a-b.false

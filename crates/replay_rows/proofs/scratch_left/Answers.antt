@@ -1,5 +1,0 @@
--- `scratch_left` meets its contract.
-use Rattle.replay_rows.proofs.scratch_left.Goals as goal
-
-pub returns : goal.returns
-returns c = rw (← c.scratch_of.ensures) c.begins.ensures
