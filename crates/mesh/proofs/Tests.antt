@@ -1,7 +1,7 @@
 -- Laws of the tests of a mesh.
 use Rattle.std.specs.Prelude.{Ok, Err}
 use lib.Ieee.{Float}
-use mathlib.Core.Path.{◌≡◌, refl, sym}
+use mathlib.Core.Path.{◌≡◌, refl, sym, ap}
 use mathlib.Core.Bool.{Bool, true, false, ◌&&◌}
 use mathlib.Core.List.{List, [], ◌∷◌}
 use mathlib.Core.Logic.{⊎_elim}
@@ -9,7 +9,7 @@ use Prim.Native.Nat.{ℕ, zero, suc, ◌+◌, ◌*◌, ◌/◌, ◌%◌, ◌≤�
 use native.Mathlib.Numerals.{add-one}
 use native.Mathlib.Omega.{arith}
 use lib.Dec.{eqb, leb, ltb}
-use lib.ListN.{length, get_or, drop, drop_of_length-le}
+use lib.ListN.{length, get_or, drop, drop_of_length-le, get_or-eq_default}
 use lib.Seq.{drop-cons}
 use borrow.Author.Tests.{le-ltb, lt-ltb, ltb-true, leb-true, le-leb, eqb-true, ne_eqb}
 use Rattle.refusal.specs.Limits.{most_faces, most_vertices}
@@ -17,7 +17,8 @@ use Rattle.refusal.specs.declared.Refusal.{Refusal}
 use Rattle.refusal.specs.declared.Refusal.TheVariants.{Shape, Count, Vertex}
 use Rattle.refusal.specs.Refusals.{Verdict, unless}
 use Rattle.path.proofs.Tests.{both, split, passed}
-use Rattle.mesh.specs.Meshes.{shaped_of, counted_of, all_below, mesh_verdict, reach_of}
+use Rattle.path.specs.Strokes.{point_at}
+use Rattle.mesh.specs.Meshes.{corner_at, shaped_of, counted_of, all_below, mesh_verdict, reach_of}
 
 and_false : (b : Bool) → (b && false) ≡ false
 and_false true = refl
@@ -61,6 +62,10 @@ unfolding all_below
 index_below v [] k h l = absurd (omega arith)
 index_below v (i ∷ is) zero h l = ltb-true i v (both (ltb i v) (all_below v is) h).0
 index_below v (i ∷ is) (suc k) h l = index_below v is k (both (ltb i v) (all_below v is) h).1 (omega arith)
+
+-- past the end there is index 0
+pub index_past : (vs : List Float) (is : List ℕ) (k : ℕ) → length is ≤ k → point_at vs 0 ≡ corner_at vs is k
+index_past vs is k h = ap (point_at vs) (sym (get_or-eq_default is 0 h))
 
 -- the corners of faces within reach
 module _ (v : ℕ) (is : List ℕ) (n k : ℕ) (h : reach_of v is n ≡ true) (l : k < n * 3) where

@@ -4,7 +4,7 @@
 ghost use Rattle.std.specs.Prelude.{◌≡◌, Ok, true, ◌&&◌, ℕ, ◌+◌, ◌*◌, ◌/◌, ◌≤◌, ◌<◌, length, ltb};
 ghost use Rattle.mesh.specs.Meshes.{corner_at, face_at, shaped_of, counted_of, all_below, mesh_verdict, reach_of, vector_good};
 
-use path::coordinate_good;
+use path::{coordinate_good, point_at};
 use refusal::{MOST_FACES, MOST_VERTICES, Refusal};
 use vector::Vector;
 
@@ -16,7 +16,7 @@ pub struct Triangle {
     pub v3: Vector,
 }
 
-// A mesh whose indices are all those of its vertices, so that a corner is read with no test.
+// A mesh whose indices are all those of its vertices: a corner that is there is read with no test of its index.
 #[derive(Clone, Copy)]
 pub struct Mesh<'a> {
     pub vertices: &'a [f64],
@@ -25,9 +25,9 @@ pub struct Mesh<'a> {
 }
 
 impl<'a> Mesh<'a> {
-    // The vertex of corner k.
+    // The vertex of corner k, which is there.
     #[tactic(auto, using(crate::proofs::Tests::index_below), unfolding(path::specs::Strokes::point_at))]
-    pub fn corner(self, k: usize) -> Vector
+    fn corner_in(self, k: usize) -> Vector
         requires { k < length self.indices.now }
         ensures { result ≡ corner_at self.entry.vertices.now self.entry.indices.now k }
     {
@@ -39,9 +39,20 @@ impl<'a> Mesh<'a> {
         }
     }
 
-    // The corners of face f.
-    pub fn face(self, f: u32) -> Triangle
-        requires { f * 3 + 2 < length self.indices.now }
+    // The vertex of corner k; past the end that of index 0, NaN where there is none.
+    #[tactic(auto, using(crate::proofs::Tests::index_past))]
+    pub fn corner(self, k: usize) -> Vector
+        ensures { result ≡ corner_at self.entry.vertices.now self.entry.indices.now k }
+    {
+        if k < self.indices.len() {
+            return self.corner_in(k);
+        }
+        point_at(self.vertices, 0)
+    }
+
+    // The corners of face f, where not all of them are there.
+    #[cold]
+    fn face_past(self, f: u32) -> Triangle
         ensures { result ≡ face_at self.entry.vertices.now self.entry.indices.now f }
     {
         let k = f as usize * 3;
@@ -49,6 +60,21 @@ impl<'a> Mesh<'a> {
             v1: self.corner(k),
             v2: self.corner(k + 1),
             v3: self.corner(k + 2),
+        }
+    }
+
+    // The corners of face f. One test serves all three.
+    pub fn face(self, f: u32) -> Triangle
+        ensures { result ≡ face_at self.entry.vertices.now self.entry.indices.now f }
+    {
+        let k = f as usize * 3;
+        if self.indices.len() <= k + 2 {
+            return self.face_past(f);
+        }
+        Triangle {
+            v1: self.corner_in(k),
+            v2: self.corner_in(k + 1),
+            v3: self.corner_in(k + 2),
         }
     }
 }

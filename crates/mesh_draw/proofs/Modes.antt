@@ -34,6 +34,10 @@ module _ (n : ℕ) (c : Float) (r : Result Mode Refusal) (e : value_said r ≡ m
   pub mode_known : (m : Mode) → r ≡ Ok m → m ≡ mode_named n c
   mode_known m t = ap (λ (s : Said Mode). get_or s.values 0 Triangles) (ap value_said (sym t) ∙ e)
 
+  -- where none is named, the definition has triangles
+  pub mode_unnamed : (w : Refusal) → r ≡ Err w → Triangles ≡ mode_named n c
+  mode_unnamed w t = ap (λ (s : Said Mode). get_or s.values 0 Triangles) (ap value_said (sym t) ∙ e)
+
   -- what is refused is the number
   pub mode_none : (w : Refusal) → r ≡ Err w → w ≡ Number
   mode_none w t = refused-number n c w (ap value_said (sym t) ∙ e)

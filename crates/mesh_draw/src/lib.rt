@@ -40,6 +40,17 @@ fn numbers_good(vertices: &[f64], eye: Vector, tolerance: f64) -> bool
     tolerance_good(tolerance)
 }
 
+// The mode that a number names. (`work_verdict` has it of `mode_of`; the test of flat faces asks for it here, so that an edit can have it, and
+// not the drawing, take another.)
+fn mode_named(number: u32, cos_theta: f64) -> Mode
+    ensures { result ≡ mode_named number cos_theta }
+{
+    match mode_of(number, cos_theta) {
+        Ok(mode) => mode,
+        Err(_) => Mode::Triangles,
+    }
+}
+
 // The verdict on the faces, where the mode needs normals: the first that has none decides.
 fn flat_in(mode: Mode, mesh: Mesh) -> Result<(), Refusal>
     requires { length mesh.indices.now / 3 ≤ most_faces }
@@ -68,7 +79,7 @@ fn work_verdict(mesh: Mesh, sight: Sight, lengths: Lengths) -> Result<Mode, Refu
     if !room_for(mesh.indices.len() / 3, lengths.points, lengths.starts) {
         return Err(Refusal::Room);
     }
-    flat_in(mode, mesh)?;
+    flat_in(mode_named(sight.number, sight.cosine), mesh)?;
     Ok(mode)
 }
 

@@ -65,7 +65,7 @@ fn read_out(
     let mut p: usize = 0;
     let mut q: usize = 0;
     for x in order {
-        q = put_mark(out_starts, q, p, *x);
+        q = put_mark(out_starts, q, p as u32, *x);
         p = read_entry(points, n, *x, out_points, p);
     }
     Place {

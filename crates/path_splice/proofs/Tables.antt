@@ -157,6 +157,14 @@ region-last ps a i h k =
     let p : a + (i - 1 - a) ≡ i - 1 = omega arith in
     ap (λ (z : ℕ). region ps a z) q ∙ take-suc (drop a ps) (i - 1 - a) 0 (rw length-drop (omega arith)) ∙ ap (λ (z : ℕ). region ps a (i - 1 - a) ++ (z ∷ [])) (get_or-drop a ps (i - 1 - a) 0 ∙ ap (λ (z : ℕ). get_or ps z 0) p)
 
+pub forward_turn : (ps : List ℕ) (i e : ℕ) (out : List ℕ) (k : ℕ) → i < e → e ≤ length ps → put (set out k (get_or ps i 0)) (k + 1) (region ps (i + 1) (e - (i + 1))) ≡ put out k (region ps i (e - i))
+unfolding put
+forward_turn ps i e out k h l = rw (region-first ps i e h l, add-one)
+
+pub forward_end : (ps : List ℕ) (i e : ℕ) (out : List ℕ) (k : ℕ) → e ≤ i → put out k (region ps i (e - i)) ≡ out
+unfolding put
+forward_end ps i e out k h = let z : e - i ≡ 0 = omega arith in rw z
+
 pub backward_turn : (ps : List ℕ) (a i : ℕ) (out : List ℕ) (k : ℕ) → a < i → i ≤ length ps → put (set out k (get_or ps (i - 1) 0)) (k + 1) (reverse (region ps a (i - 1 - a))) ≡ put out k (reverse (region ps a (i - a)))
 unfolding put
 backward_turn ps a i out k h l =

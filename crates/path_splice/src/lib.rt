@@ -1,7 +1,7 @@
 // Splicing strokes of vertex numbers: strokes that meet end to end become one.
 #![tactic(auto)]
 
-ghost use Rattle.std.specs.Prelude.{◌≡◌, true, [], ◌∷◌, reverse, ℕ, ◌+◌, ◌-◌, ◌*◌, ◌/◌, ◌<◌, ◌≤◌, length, get_or, eqb};
+ghost use Rattle.std.specs.Prelude.{◌≡◌, true, [], ◌∷◌, reverse, ℕ, ◌+◌, ◌-◌, ◌*◌, ◌/◌, ◌%◌, ◌^◌, ◌<◌, ◌≤◌, length, get_or, eqb};
 ghost use Rattle.refusal.specs.Said.{accepted};
 ghost use Rattle.order.specs.Regions.{region, put, Into2};
 ghost use Rattle.path.specs.Strokes.{good_starts, strokes_in};
@@ -107,13 +107,14 @@ impl Strokes<'_> {
     }
 }
 
-// Copies the points from a up to e to place at.
+// Copies the points from a up to e to place at. (By a loop: `copy_from_slice` would have the archive take `memmove` from elsewhere.)
 fn write_forward(points: &[u32], a: usize, e: usize, out: &mut [u32], at: usize)
     requires { (a ≤ e) × (e ≤ length points.now) × (at + (e - a) ≤ length out.old) }
     ensures { out.new ≡ put out.old at (region points.now a (e - a)) }
 {
-    let h = at + (e - a);
-    out[at..h].copy_from_slice(&points[a..e]);
+    for i in 0..e - a {
+        out[at + i] = points[a + i];
+    }
 }
 
 // Copies the points from a up to e, the last one first.
@@ -151,16 +152,15 @@ impl Strokes<'_> {
     }
 }
 
-// Writes the start of a chain where entry x begins one, and answers the place after it.
-pub fn put_mark(out: &mut [u32], q: usize, p: usize, x: u32) -> usize
-    requires { (q ≤ 0x7fff_ffff_ffff_ffff) × (p ≤ most_points) }
-    ensures { (out.new ≡ put out.old q (start_mark p x)) × (result ≡ q + length (start_mark p x)) }
+// Writes the start of a chain where entry x begins one, and answers the place after it; after the last of all places comes 0.
+pub fn put_mark(out: &mut [u32], q: usize, p: u32, x: u32) -> usize
+    ensures { (out.new ≡ put out.old q (start_mark p x)) × (result ≡ (q + length (start_mark p x)) % 2 ^ 64) }
 {
     if x % 2 == 0 {
         return q;
     }
-    put(out, q, p as u32);
-    q + 1
+    put(out, q, p);
+    q.wrapping_add(1)
 }
 
 impl Strokes<'_> {
@@ -175,7 +175,7 @@ impl Strokes<'_> {
         let mut p: usize = 0;
         let mut q: usize = 0;
         for x in order {
-            q = put_mark(out_starts, q, p, *x);
+            q = put_mark(out_starts, q, p as u32, *x);
             p = self.read_entry(*x, out_points, p);
         }
         Place {
@@ -287,22 +287,21 @@ fn draw_pairs(s: &mut [u32], n: usize, out_points: &mut [u32], out_starts: &mut 
 }
 
 // Whether n strokes have room: W words, P places for what their points are, and a start for each.
-pub fn fits<const W: usize, const P: usize>(
+pub fn fits<const W: u8, const P: u8>(
     n: usize,
     words: usize,
     room: usize,
     start_room: usize,
 ) -> bool
-    requires { (W ≤ 64) × (P ≤ 64) }
     ensures { result ≡ strokes_fit W P n words room start_room }
 {
     if MOST_STROKES < n {
         return false;
     }
-    if words < W * n {
+    if words < W as usize * n {
         return false;
     }
-    if room < P * n {
+    if room < P as usize * n {
         return false;
     }
     n <= start_room

@@ -5,7 +5,7 @@
 #![tactic(auto)]
 
 use refusal::{Refusal, number};
-use replay_rows::{DIRT, GRIT, Page, past, placed, same, status};
+use replay_rows::{DIRT, GRIT, Page, Rows, past, placed, replay, same, status};
 use std::io;
 use vector::Vector;
 
@@ -173,16 +173,21 @@ fn splice_agrees(page: &Page) -> bool {
     splice_leaves(page, past(at, ns), &points[..np], &starts[..ns])
 }
 
-// A row of no function does not agree.
-fn agrees(page: &Page) -> bool {
-    match page.words[0] {
-        1..=20 => values_agree(page),
-        21 => chop_agrees(page),
-        22 => splice_agrees(page),
-        _ => false,
+// The rows of this program. One of no function does not agree.
+struct Replayed;
+
+impl Rows for Replayed {
+    fn agrees(&self, page: &Page) -> bool {
+        match page.words[0] {
+            1..=20 => values_agree(page),
+            21 => chop_agrees(page),
+            22 => splice_agrees(page),
+            _ => false,
+        }
     }
 }
 
 fn main(rt: HostRuntime) -> io::Result<()> {
-    replay_rows::replay(&rt, &mut rt.stdin(), &NAMES, agrees)
+    replay(&rt, &mut rt.stdin(), &NAMES, &Replayed)?;
+    Ok(())
 }

@@ -9,7 +9,7 @@
 use mesh_section::Plane;
 use mesh_weld::Welded;
 use refusal::{Refusal, carried_by};
-use replay_rows::{DIRT, GRIT, GRIT_BITS, Page, past, placed, status};
+use replay_rows::{DIRT, GRIT, GRIT_BITS, Page, Rows, past, placed, replay, status};
 use std::io;
 
 // The calls by their numbers; 0 is that of no row.
@@ -157,17 +157,22 @@ fn plane_agrees<F: Fn(&Page, usize, &[f64], &[u32]) -> bool>(page: &Page, leaves
     leaves(page, past(at, ni), &vertices[..nv], &indices[..ni])
 }
 
-// A row of no call does not agree.
-fn agrees(page: &Page) -> bool {
-    match page.words[0] {
-        1 => draw_agrees(page),
-        2 => weld_agrees(page),
-        3 => plane_agrees(page, section_leaves),
-        4 => plane_agrees(page, contour_leaves),
-        _ => false,
+// The rows of this program. One of no call does not agree.
+struct Replayed;
+
+impl Rows for Replayed {
+    fn agrees(&self, page: &Page) -> bool {
+        match page.words[0] {
+            1 => draw_agrees(page),
+            2 => weld_agrees(page),
+            3 => plane_agrees(page, section_leaves),
+            4 => plane_agrees(page, contour_leaves),
+            _ => false,
+        }
     }
 }
 
 fn main(rt: HostRuntime) -> io::Result<()> {
-    replay_rows::replay(&rt, &mut rt.stdin(), &NAMES, agrees)
+    replay(&rt, &mut rt.stdin(), &NAMES, &Replayed)?;
+    Ok(())
 }

@@ -343,15 +343,14 @@ impl Page {
         at: usize,
         status: u64,
         counts: &[u64],
-        each: usize,
+        each: u8,
         list: &[T],
         rest: u64,
         starts: &[u32],
     ) -> bool
-        requires { each ≤ 3 }
         ensures { result ≡ lists_left T.is self.now at status counts.now each list.now rest starts.now }
     {
-        let n = elements(count_at(counts, 0)) * each;
+        let n = elements(count_at(counts, 0)) * each as usize;
         let m = elements(count_at(counts, 1));
         let p = past(at, counts.len());
         self.head_is(at, status, counts, n, m)
@@ -516,32 +515,34 @@ pub fn end_row(page: &mut Page, counts: &mut [Count; 32], functions: usize, agre
     *page = Page::new();
 }
 
-fn take_bytes<F: Fn(&Page) -> bool>(
+// How a program works its rows out.
+pub trait Rows {
+    // Whether a row is one of the program's and leaves what it says.
+    fn agrees(&self, page: &Page) -> bool;
+}
+
+fn take_bytes(
     bytes: &[u8],
     page: &mut Page,
     counts: &mut [Count; 32],
     functions: usize,
-    agrees: &F,
-)
-    requires { F.IsAlwaysCallable agrees.now }
-{
+    rows: &impl Rows,
+) {
     for b in bytes {
         if page.take_byte(*b) {
-            let agreed = agrees(page);
-            end_row(page, counts, functions, agreed);
+            let agrees = rows.agrees(page);
+            end_row(page, counts, functions, agrees);
         }
     }
 }
 
 // Reads to the end. Nothing says that an input ends, so the turns are counted to a number that no run uses up.
-fn read_rows<F: Fn(&Page) -> bool>(
+fn read_rows(
     input: &mut impl Read,
     counts: &mut [Count; 32],
     functions: usize,
-    agrees: &F,
-) -> io::Result<()>
-    requires { F.IsAlwaysCallable agrees.now }
-{
+    rows: &impl Rows,
+) -> io::Result<()> {
     let mut buffer = [0u8; 65536];
     let mut page = Page::new();
     for _ in 0..u64::MAX {
@@ -549,7 +550,7 @@ fn read_rows<F: Fn(&Page) -> bool>(
         if n == 0 {
             break;
         }
-        take_bytes(&buffer[..n], &mut page, counts, functions, agrees);
+        take_bytes(&buffer[..n], &mut page, counts, functions, rows);
     }
     Ok(())
 }
@@ -574,17 +575,17 @@ pub fn print_rows(rt: &impl Print, names: &[&str], counts: &[Count; 32]) -> io::
     Ok(n)
 }
 
-// Reads rows to the end of an input, works each out, and prints how many came and how many differ. The first name is that of no function.
-pub fn replay<F: Fn(&Page) -> bool>(
+// Reads rows to the end of an input, works each out, prints how many came and how many differ, and answers how many names there are, at
+// most 32. The first name is that of no function. No contract can say what is read and printed.
+pub fn replay(
     rt: &impl Print,
     input: &mut impl Read,
     names: &[&str],
-    agrees: F,
-) -> io::Result<()>
-    requires { F.IsAlwaysCallable agrees }
+    rows: &impl Rows,
+) -> io::Result<usize>
+    ensures { IfOk result (λ n. n ≡ names_in (length names.now)) }
 {
     let mut counts = [Count { rows: 0, differ: 0 }; 32];
-    read_rows(input, &mut counts, names.len(), &agrees)?;
-    print_rows(rt, names, &counts)?;
-    Ok(())
+    read_rows(input, &mut counts, names.len(), rows)?;
+    print_rows(rt, names, &counts)
 }

@@ -5,7 +5,7 @@
 // pattern, so that what must stay is seen. A row that is no row of a call counts as one that differs.
 #![tactic(auto)]
 
-use replay_rows::{DIRT, DUST, Page, past};
+use replay_rows::{DIRT, DUST, Page, Rows, past, replay};
 use sheet_read::SheetRead;
 use std::io;
 
@@ -60,15 +60,20 @@ fn read_agrees(page: &Page) -> bool {
     read_leaves(page, past(3, nb), &sheet[..nb])
 }
 
-// A row of no call does not agree.
-fn agrees(page: &Page) -> bool {
-    match page.words[0] {
-        1 => write_agrees(page),
-        2 => read_agrees(page),
-        _ => false,
+// The rows of this program. One of no call does not agree.
+struct Replayed;
+
+impl Rows for Replayed {
+    fn agrees(&self, page: &Page) -> bool {
+        match page.words[0] {
+            1 => write_agrees(page),
+            2 => read_agrees(page),
+            _ => false,
+        }
     }
 }
 
 fn main(rt: HostRuntime) -> io::Result<()> {
-    replay_rows::replay(&rt, &mut rt.stdin(), &NAMES, agrees)
+    replay(&rt, &mut rt.stdin(), &NAMES, &Replayed)?;
+    Ok(())
 }

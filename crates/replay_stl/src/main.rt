@@ -7,7 +7,7 @@
 
 use mesh_weld::Welded;
 use mesh_weld::read::read_stl;
-use replay_rows::{DIRT, DUST, GRIT, Page, elements, past, status};
+use replay_rows::{DIRT, DUST, GRIT, Page, Rows, elements, past, replay, status};
 use std::io;
 use stl_write::write_stl;
 
@@ -85,15 +85,20 @@ fn write_agrees(page: &Page) -> bool {
     write_lent(page, past(at, ni), &vertices[..nv], &indices[..ni])
 }
 
-// A row of no call does not agree.
-fn agrees(page: &Page) -> bool {
-    match page.words[0] {
-        1 => read_agrees(page),
-        2 => write_agrees(page),
-        _ => false,
+// The rows of this program. One of no call does not agree.
+struct Replayed;
+
+impl Rows for Replayed {
+    fn agrees(&self, page: &Page) -> bool {
+        match page.words[0] {
+            1 => read_agrees(page),
+            2 => write_agrees(page),
+            _ => false,
+        }
     }
 }
 
 fn main(rt: HostRuntime) -> io::Result<()> {
-    replay_rows::replay(&rt, &mut rt.stdin(), &NAMES, agrees)
+    replay(&rt, &mut rt.stdin(), &NAMES, &Replayed)?;
+    Ok(())
 }

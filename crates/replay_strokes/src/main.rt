@@ -7,7 +7,7 @@
 
 use path_adaptive::Adapted;
 use path_simplify::Simplified;
-use replay_rows::{DIRT, GRIT, Page, past};
+use replay_rows::{DIRT, GRIT, Page, Rows, past, replay};
 use std::io;
 
 // The calls by their numbers; 0 is that of no row.
@@ -75,15 +75,20 @@ fn adaptive_agrees(page: &Page) -> bool {
     adaptive_leaves(page, past(at, ns), &points[..np], &starts[..ns])
 }
 
-// A row of no call does not agree.
-fn agrees(page: &Page) -> bool {
-    match page.words[0] {
-        1 => simplify_agrees(page),
-        2 => adaptive_agrees(page),
-        _ => false,
+// The rows of this program. One of no call does not agree.
+struct Replayed;
+
+impl Rows for Replayed {
+    fn agrees(&self, page: &Page) -> bool {
+        match page.words[0] {
+            1 => simplify_agrees(page),
+            2 => adaptive_agrees(page),
+            _ => false,
+        }
     }
 }
 
 fn main(rt: HostRuntime) -> io::Result<()> {
-    replay_rows::replay(&rt, &mut rt.stdin(), &NAMES, agrees)
+    replay(&rt, &mut rt.stdin(), &NAMES, &Replayed)?;
+    Ok(())
 }

@@ -10,6 +10,7 @@ use lib.ListN.{length, get_or, drop, drop_of_length-le, length-append}
 use lib.Seq.{sets, drop-cons, get_or-drop}
 use lib.Dec.{ltb}
 use Rattle.byte_words.specs.Bytes.{bytes_of, bytes_all}
+use Rattle.sheet.specs.Sheets.{header_words, numbers_from, header_of}
 use Rattle.byte_words.proofs.Words.{put_one, put-none}
 use Rattle.sheet.proofs.Words.{put-more}
 use Rattle.sheet.specs.InnerKept.{kept_at, kept_from}
@@ -59,3 +60,10 @@ number_turn ns i h l m k e =
 
 pub number_end : (ns : List ℕ) (i : ℕ) → length ns ≤ i → (l : List ℕ) (k : ℕ) → sets l k (bytes_all (drop i ns)) ≡ l
 number_end ns i h l k = rw (drop_of_length-le ns h) (put-none l k)
+
+-- the words of the header one after the other
+pub header_put : (l : List ℕ) (m v s p o : ℕ) → o ≡ 4 * numbers_from s → (l₁ l₂ l₃ l₄ l₅ l₆ : List ℕ)
+    → l₁ ≡ sets l 0 (bytes_of m) → l₂ ≡ sets l₁ 4 (bytes_of v) → l₃ ≡ sets l₂ 8 (bytes_of s) → l₄ ≡ sets l₃ 12 (bytes_of p) → l₅ ≡ sets l₄ 16 (bytes_of (4 * header_words)) → l₆ ≡ sets l₅ 20 (bytes_of o)
+    → l₆ ≡ sets l 0 (bytes_all (header_of m v s p))
+unfolding bytes_all bytes_of header_of
+header_put l m v s p o q l₁ l₂ l₃ l₄ l₅ l₆ e₁ e₂ e₃ e₄ e₅ e₆ = rw (e₆, e₅, e₄, e₃, e₂, e₁, q)

@@ -13,7 +13,10 @@ ghost use Rattle.sheet_write.specs.Call.{verdict_of, left, write_left};
 use mesh::all_below;
 use path::{end_of, rising};
 use refusal::Refusal;
-use sheet::{HEADER_WORDS, counts_good, mode_word, numbers_from, put_word, write_header};
+use sheet::{
+    HEADER_WORDS, MODE, NUMBERS_OFFSET, POINTS, STARTS_OFFSET, STROKES, VERTICES, counts_good,
+    mode_word, numbers_from, put_word,
+};
 
 // Whether stroke i has points.
 fn has_points(starts: &[u32], i: usize, n: usize) -> bool
@@ -78,6 +81,20 @@ fn write_numbers(numbers: &[u32], out: &mut [u8], k: usize)
     for (i, x) in numbers.iter().enumerate() {
         put_word(out, k + i, *x);
     }
+}
+
+// Stores the header: counts, and the offsets of starts and numbers. (sheet has its like for any count of strokes; this one stays, so that an
+// edit can have it write another offset.)
+fn write_header(out: &mut [u8], mode: u32, vertices: u32, strokes: u32, points: u32)
+    requires { strokes ≤ most_strokes }
+    ensures { out.new ≡ sets out.old 0 (bytes_all (header_of mode vertices strokes points)) }
+{
+    put_word(out, MODE, mode);
+    put_word(out, VERTICES, vertices);
+    put_word(out, STROKES, strokes);
+    put_word(out, POINTS, points);
+    put_word(out, STARTS_OFFSET, (4 * HEADER_WORDS) as u32);
+    put_word(out, NUMBERS_OFFSET, (4 * numbers_from(strokes)) as u32);
 }
 
 // Whether the sheet of n numbers fits so many bytes.

@@ -169,7 +169,8 @@ fn root_bits(b: u64) -> u64
     (e / 2 - 1) * 0x10_0000_0000_0000 + (digits(n) + 1) / 2
 }
 
-// The f64 nearest to the root of a finite number above 0. It is called at two places, and so stays apart from their tests.
+// The f64 nearest to the root of a finite number above 0. It stays apart from the tests of those who call it.
+#[inline(never)]
 fn root_of(x: f64) -> f64
     requires { (lt zero64 x ≡ true) × (lt x (inf false) ≡ true) }
     ensures { accepted (result ∷ []) ≡ root_of x }
@@ -177,7 +178,9 @@ fn root_of(x: f64) -> f64
     f64::from_bits(root_bits(f64::to_bits(x)))
 }
 
-// The f64 nearest to the root of x; zeros and infinity are their own roots.
+// The f64 nearest to the root of x; zeros and infinity are their own roots. Its tests go into its callers, so that none of them reads the
+// answer back from memory.
+#[inline(always)]
 pub fn sqrt(x: f64) -> Result<f64, Refusal>
     ensures { value_said result ≡ root_of x }
 {

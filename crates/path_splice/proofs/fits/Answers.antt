@@ -1,4 +1,5 @@
 -- `fits` meets its contract.
+use Prim.Native.Nat.{◌*◌}
 use borrow.Author.Tests.{le-leb, lt-leb}
 use Rattle.path_splice.specs.InnerPairs.{strokes_fit}
 use Rattle.path_splice.proofs.fits.Goals as goal
@@ -9,7 +10,7 @@ returns-then-n-gt-MOST_STROKES g c = rw (lt-leb _ _ c.if-n-gt-MOST_STROKES.true)
 
 pub returns-then-words-n : goal.returns-then-words-n
 unfolding strokes_fit
-returns-then-words-n g c = rw (le-leb _ _ c.if-n-gt-MOST_STROKES.false, lt-leb _ _ c.if-words-n.true)
+returns-then-words-n g c = rw (le-leb _ _ c.if-n-gt-MOST_STROKES.false, lt-leb (g.row.W * c.args.n) c.args.words c.if-words-n.true)
 
 pub returns-then-room-n : goal.returns-then-room-n
 unfolding strokes_fit

@@ -1,13 +1,16 @@
 -- `write_forward` meets its contract.
-use mathlib.Core.Path.{ap, ◌∙◌}
-use Prim.Native.Nat.{◌-◌}
+use mathlib.Core.Path.{◌≡◌, sym, ◌∙◌}
+use Prim.Native.Nat.{◌+◌, ◌-◌}
 use native.Mathlib.Omega.{arith}
-use lib.ListN.{length}
-use Rattle.order.specs.Regions.{put}
-use Rattle.order.proofs.Parts.{length-region, put-lent}
+use Rattle.path_splice.proofs.Tables.{forward_turn, forward_end}
 use Rattle.path_splice.proofs.write_forward.Goals as goal
 
+pub loop-i-preserved : goal.loop-i-preserved
+loop-i-preserved c =
+    let i = c.args.a + c.loop-i.i in
+    let at : c.args.at + (c.loop-i.i + 1) ≡ c.args.at + c.loop-i.i + 1 = omega arith in
+    let next : c.args.a + (c.loop-i.i + 1) ≡ i + 1 = omega arith in
+    rw (at, next) (forward_turn c.args.points.now i c.args.e c.loop-i.out (c.args.at + c.loop-i.i) (omega arith) (omega arith)) ∙ c.loop-i.invariant
+
 pub returns : goal.returns
-returns c =
-    let e = ap length c.copy_from_slice.ensures.after ∙ length-region c.args.points.now c.args.a (c.args.e - c.args.a) (omega arith) in
-    put-lent c.args.out.now c.args.at _ c.copy_from_slice.new.self (omega arith) (omega arith) ∙ ap (put c.args.out.now c.args.at) c.copy_from_slice.ensures.after
+returns c = sym (forward_end c.args.points.now (c.args.a + c.loop-i.i) c.args.e c.loop-i.out (c.args.at + c.loop-i.i) (omega arith)) ∙ c.loop-i.invariant
