@@ -37,15 +37,6 @@ returns-then-not-room_for c =
     let g = all_good c.args.mesh.vertices.now s (sym c.numbers_good.ensures ∙ c.if-not-numbers_good.false) (good-mode _ _ _ c.mode_of.ensures _ c.in_ok-mode.was) in
     simp (g, sym c.scratch_for.ensures ∙ c.if-not-scratch_for.false, sym c.room_for.ensures ∙ c.if-not-room_for.true)
 
-pub returns-in_err-flat_in : goal.returns-in_err-flat_in
-unfolding work_verdict unless
-returns-in_err-flat_in c =
-    let s = c.args.sight in
-    let g = all_good c.args.mesh.vertices.now s (sym c.numbers_good.ensures ∙ c.if-not-numbers_good.false) (good-mode _ _ _ c.mode_of.ensures _ c.in_ok-mode.was) in
-    let p = err_from_is_err_and c.from_residual-in_err-flat_in.result c.from_residual-in_err-flat_in.ensures.1 in
-    let e = ap (λ (m : Mode). flat_in m c.args.mesh.vertices.now c.args.mesh.indices.now) c.mode_named.ensures in
-    rw (p.1, p.2) (simp (g, sym c.scratch_for.ensures ∙ c.if-not-scratch_for.false, sym c.room_for.ensures ∙ c.if-not-room_for.false) (ap (λ (v : Verdict). with_mode v (mode_named c.args.sight.number c.args.sight.cosine)) (sym c.in_err-flat_in.was ∙ c.flat_in.ensures ∙ e)))
-
 pub returns : goal.returns
 unfolding work_verdict unless
 returns c =
@@ -54,3 +45,12 @@ returns c =
     let k = mode_known _ _ _ c.mode_of.ensures _ c.in_ok-mode.was in
     let e = ap (λ (m : Mode). flat_in m c.args.mesh.vertices.now c.args.mesh.indices.now) c.mode_named.ensures in
     simp (g, sym c.scratch_for.ensures ∙ c.if-not-scratch_for.false, sym c.room_for.ensures ∙ c.if-not-room_for.false) (ap Ok k ∙ ap (λ (v : Verdict). with_mode v (mode_named c.args.sight.number c.args.sight.cosine)) (sym c.in_ok-flat_in.was ∙ c.flat_in.ensures ∙ e))
+
+pub returns-in_err-flat_in : goal.returns-in_err-flat_in
+unfolding work_verdict unless
+returns-in_err-flat_in c =
+    let s = c.args.sight in
+    let g = all_good c.args.mesh.vertices.now s (sym c.numbers_good.ensures ∙ c.if-not-numbers_good.false) (good-mode _ _ _ c.mode_of.ensures _ c.in_ok-mode.was) in
+    let p = err_from_is_err_and c.from_residual-in_err-flat_in.result c.from_residual-in_err-flat_in.ensures.1 in
+    let e = ap (λ (m : Mode). flat_in m c.args.mesh.vertices.now c.args.mesh.indices.now) c.mode_named.ensures in
+    rw (p.1, p.2) (simp (g, sym c.scratch_for.ensures ∙ c.if-not-scratch_for.false, sym c.room_for.ensures ∙ c.if-not-room_for.false) (ap (λ (v : Verdict). with_mode v (mode_named c.args.sight.number c.args.sight.cosine)) (sym c.in_err-flat_in.was ∙ c.flat_in.ensures ∙ e)))
