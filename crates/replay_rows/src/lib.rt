@@ -4,13 +4,14 @@
 // gives. Two NaN count as equal.
 #![tactic(auto)]
 
-ghost use Rattle.std.specs.Prelude.{◌≡◌, ℕ, Bool, [], ◌∷◌, ◌%◌, ◌*◌, ◌<◌, ◌≤◌, length, ◌==◌, from_bits, slice_index, IfOk, IfSome};
+ghost use Rattle.std.specs.Prelude.{◌≡◌, ℕ, Bool, List, [], ◌∷◌, ◌%◌, ◌*◌, ◌/◌, ◌<◌, ◌≤◌, length, ◌==◌, from_bits, slice_index, Float, IfOk, IfSome};
 ghost use Rattle.std.specs.Float.{binary64};
 ghost use Rattle.std.specs.Float.Ieee.{nan_bits};
+ghost use Rattle.replay_rows.specs.declared.Page.{Page};
 ghost use Rattle.replay_rows.specs.Words.{same_of, past_of};
 ghost use Rattle.replay_rows.specs.Pages.{blank, word_of, list_size, point_of, matrix_of};
 ghost use Rattle.replay_rows.specs.Lists.{filled, held, expected};
-ghost use Rattle.replay_rows.specs.Answers.{status_of, answer_said, ends_at, elements_of, head_is, lists_left, points_left, numbers_left, bytes_left, scratch_of};
+ghost use Rattle.replay_rows.specs.Answers.{status_of, answer_said, ends_at, elements_of, head_is, lists_left, points_left, numbers_left, bytes_left, wrote_of, refused_by, count_is, counts_are, any_head, any_lists, any_points, any_numbers, scratch_of};
 ghost use Rattle.replay_rows.specs.Rows.{hex_of, with_digit, with_end, fed, kind_of, one_more, counted, names_in};
 
 use path::Place;
@@ -170,7 +171,7 @@ fn scratch_of(status: u64, x: u64) -> u64
 // ---- rows
 
 // A row as it is read: its words, how many of them are whole, and whether a byte came that belongs to no row.
-#[derive(Drop)]
+#[derive(Clone, Copy)]
 pub struct Page {
     pub words: [u64; WORDS],
     pub whole: usize,
@@ -359,37 +360,29 @@ impl Page {
     }
 
     // Whether points and starts were left as the row says from place `at` on.
-    #[tactic(auto, unfolding(crate::specs::Answers::status_of))]
-    pub fn points_left<const N: usize>(
+    pub fn points_left<A: Answered>(
         &self,
         at: usize,
-        answer: &Result<[u64; N], Refusal>,
+        answer: &A,
         points: &[f64],
         starts: &[u32],
     ) -> bool
-        ensures { result ≡ points_left self.now at (answer_said answer.now) points.now starts.now }
+        ensures { result ≡ A.points answer.now self.now at points.now starts.now }
     {
-        match answer {
-            Ok(counts) => self.lists_left(at, 0, counts, 3, points, GRIT_BITS, starts),
-            Err(_) => self.lists_left(at, status(answer), &[], 3, points, GRIT_BITS, starts),
-        }
+        answer.points_held(self, at, points, starts)
     }
 
     // The same of numbers and starts.
-    #[tactic(auto, unfolding(crate::specs::Answers::status_of))]
-    pub fn numbers_left<const N: usize>(
+    pub fn numbers_left<A: Answered>(
         &self,
         at: usize,
-        answer: &Result<[u64; N], Refusal>,
+        answer: &A,
         numbers: &[u32],
         starts: &[u32],
     ) -> bool
-        ensures { result ≡ numbers_left self.now at (answer_said answer.now) numbers.now starts.now }
+        ensures { result ≡ A.numbers answer.now self.now at numbers.now starts.now }
     {
-        match answer {
-            Ok(counts) => self.lists_left(at, 0, counts, 1, numbers, DIRT as u64, starts),
-            Err(_) => self.lists_left(at, status(answer), &[], 1, numbers, DIRT as u64, starts),
-        }
+        answer.numbers_held(self, at, numbers, starts)
     }
 
     // The same of bytes alone.
@@ -413,6 +406,151 @@ impl Page {
         ensures { result ≡ held T.is (expected self.now 0 0 (scratch_of status rest)) 0 scratch.now }
     {
         self.begins(0, 0, scratch, scratch_of(status, rest))
+    }
+}
+
+// What a call answered, to which a row is held.
+pub trait Answered {
+    ghost points: { Self → Page → ℕ → List Float → List ℕ → Bool };
+
+    ghost numbers: { Self → Page → ℕ → List ℕ → List ℕ → Bool };
+
+    // Whether points and starts were left as a row says from place `at` on.
+    fn points_held(&self, page: &Page, at: usize, list: &[f64], starts: &[u32]) -> bool
+        ensures { result ≡ points self.now page.now at list.now starts.now };
+
+    // The same of numbers and starts.
+    fn numbers_held(&self, page: &Page, at: usize, list: &[u32], starts: &[u32]) -> bool
+        ensures { result ≡ numbers self.now page.now at list.now starts.now };
+}
+
+impl<const N: usize> Answered for Result<[u64; N], Refusal> {
+    ghost points = { λ answer page at ps ss. points_left page at (answer_said answer) ps ss };
+
+    ghost numbers = { λ answer page at ns ss. numbers_left page at (answer_said answer) ns ss };
+
+    #[tactic(auto, unfolding(crate::specs::Answers::status_of))]
+    fn points_held(&self, page: &Page, at: usize, list: &[f64], starts: &[u32]) -> bool {
+        match self {
+            Ok(counts) => page.lists_left(at, 0, counts, 3, list, GRIT_BITS, starts),
+            Err(_) => page.lists_left(at, status(self), &[], 3, list, GRIT_BITS, starts),
+        }
+    }
+
+    #[tactic(auto, unfolding(crate::specs::Answers::status_of))]
+    fn numbers_held(&self, page: &Page, at: usize, list: &[u32], starts: &[u32]) -> bool {
+        match self {
+            Ok(counts) => page.lists_left(at, 0, counts, 1, list, DIRT as u64, starts),
+            Err(_) => page.lists_left(at, status(self), &[], 1, list, DIRT as u64, starts),
+        }
+    }
+}
+
+// An answer of any status and any counts, also one that no call gives: so many words of the row are its counts, of which the first four are
+// held to it. What was written are two lists, as long as the first two say, whether or not the row has these.
+#[derive(Clone, Copy)]
+pub struct Answer {
+    pub status: u64,
+    pub counts: usize,
+    pub first: u64,
+    pub second: u64,
+    pub third: u64,
+    pub fourth: u64,
+}
+
+// An accepted call that counted two lists.
+pub fn wrote(first: usize, second: usize) -> Answer
+    ensures { result ≡ wrote_of first second }
+{
+    Answer {
+        status: 0,
+        counts: 2,
+        first: first as u64,
+        second: second as u64,
+        third: 0,
+        fourth: 0,
+    }
+}
+
+// A refused call, by any number.
+pub fn refused(status: u32) -> Answer
+    ensures { result ≡ refused_by status }
+{
+    Answer {
+        status: status as u64,
+        counts: 0,
+        first: 0,
+        second: 0,
+        third: 0,
+        fourth: 0,
+    }
+}
+
+impl Answer {
+    // Whether count number i, where the row has so many, is x.
+    #[tactic(auto, unfolding(crate::specs::Answers::count_is))]
+    fn count_is(&self, page: &Page, at: usize, i: usize, x: u64) -> bool
+        ensures { result ≡ count_is page.now at self.now.counts i x }
+    {
+        if i < self.counts {
+            return page.word(past(at, i)) == x;
+        }
+        true
+    }
+
+    // Whether the row has its counts from place `at` on, of the first four so many as it has.
+    #[tactic(auto, unfolding(crate::specs::Answers::counts_are))]
+    fn counts_are(&self, page: &Page, at: usize) -> bool
+        ensures { result ≡ counts_are page.now at self.now }
+    {
+        self.count_is(page, at, 0, self.first)
+            && self.count_is(page, at, 1, self.second)
+            && self.count_is(page, at, 2, self.third)
+            && self.count_is(page, at, 3, self.fourth)
+    }
+
+    // The same, and that the row ends after two lists of n and m words behind the counts, and has this status.
+    #[tactic(auto, unfolding(crate::specs::Answers::any_head))]
+    pub fn head_is(&self, page: &Page, at: usize, n: usize, m: usize) -> bool
+        ensures { result ≡ any_head page.now at self.now n m }
+    {
+        let end = past(past(past(at, self.counts), n), m);
+        self.counts_are(page, at) && page.ends(end, self.status)
+    }
+
+    // Whether two lists were left as the row says, as `Page::lists_left` does.
+    #[tactic(auto, unfolding(crate::specs::Answers::any_lists))]
+    fn lists_left<T: Element>(
+        &self,
+        page: &Page,
+        at: usize,
+        each: u8,
+        list: &[T],
+        rest: u64,
+        starts: &[u32],
+    ) -> bool
+        ensures { result ≡ any_lists T.is page.now at self.now each list.now rest starts.now }
+    {
+        let n = elements(self.first) * each as usize;
+        let m = elements(self.second);
+        let p = past(at, self.counts);
+        self.head_is(page, at, n, m)
+            && page.begins(p, n, list, rest)
+            && page.begins(past(p, n), m, starts, DIRT as u64)
+    }
+}
+
+impl Answered for Answer {
+    ghost points = { λ answer page at ps ss. any_points page at answer ps ss };
+
+    ghost numbers = { λ answer page at ns ss. any_numbers page at answer ns ss };
+
+    fn points_held(&self, page: &Page, at: usize, list: &[f64], starts: &[u32]) -> bool {
+        self.lists_left(page, at, 3, list, GRIT_BITS, starts)
+    }
+
+    fn numbers_held(&self, page: &Page, at: usize, list: &[u32], starts: &[u32]) -> bool {
+        self.lists_left(page, at, 1, list, DIRT as u64, starts)
     }
 }
 
@@ -557,15 +695,64 @@ fn read_rows(
 
 // ---- what is printed
 
+// What a list of names is made of: texts, each a name, or bytes, whatever they are, sixteen a name.
+pub trait Naming: Sized {
+    ghost number: { List Self → ℕ };
+
+    // How many names a list has.
+    fn number(names: &[Self]) -> usize
+        ensures { result ≡ number names.now };
+
+    // Prints the line of name number k; nothing if there is none.
+    fn print_line(names: &[Self], rt: &impl Print, k: usize, count: Count) -> io::Result<()>;
+}
+
+impl Naming for &str {
+    ghost number = { length };
+
+    fn number(names: &[&str]) -> usize {
+        names.len()
+    }
+
+    fn print_line(names: &[&str], rt: &impl Print, k: usize, count: Count) -> io::Result<()> {
+        match names.get(k) {
+            Some(name) => println!(rt; "{name:<16} {} rows, {} differ", count.rows, count.differ),
+            None => Ok(()),
+        }
+    }
+}
+
+impl Naming for u8 {
+    ghost number = { λ bytes. length bytes / 16 };
+
+    fn number(names: &[u8]) -> usize {
+        names.len() / 16
+    }
+
+    fn print_line(names: &[u8], rt: &impl Print, k: usize, count: Count) -> io::Result<()> {
+        match names.chunks_exact(16).nth(k) {
+            Some(name) => {
+                rt.write_all(name)?;
+                println!(rt; " {} rows, {} differ", count.rows, count.differ)
+            }
+            None => Ok(()),
+        }
+    }
+}
+
 // Prints a line for each name, at most 32, and one for all, and answers how many names there are. No contract can say what is printed.
 #[tactic(auto, unfolding(crate::specs::Rows::names_in))]
-pub fn print_rows(rt: &impl Print, names: &[&str], counts: &[Count; 32]) -> io::Result<usize>
-    ensures { IfOk result (λ n. n ≡ names_in (length names.now)) }
+pub fn print_rows<N: Naming>(
+    rt: &impl Print,
+    names: &[N],
+    counts: &[Count; 32],
+) -> io::Result<usize>
+    ensures { IfOk result (λ n. n ≡ names_in (N.number names.now)) }
 {
-    let n = names.len().min(32);
+    let n = N::number(names).min(32);
     let mut all = Count { rows: 0, differ: 0 };
-    for (name, count) in names.iter().zip(counts) {
-        println!(rt; "{name:<16} {} rows, {} differ", count.rows, count.differ)?;
+    for (k, count) in counts.iter().enumerate().take(n) {
+        N::print_line(names, rt, k, *count)?;
     }
     for count in counts {
         all.rows = all.rows.wrapping_add(count.rows);
