@@ -329,11 +329,11 @@ fn write_strokes(
     w
 }
 
-// Whether a stroke from place a up to e is not too long to simplify.
+// Whether a stroke from place a up to e is not too long to simplify. (`saturating_sub` is slower here, which empty strokes show.)
 fn short_stroke(a: usize, e: usize) -> bool
     ensures { result ≡ leb (e - a) most_to_simplify }
 {
-    e.saturating_sub(a) <= MOST_TO_SIMPLIFY
+    e <= a || e - a <= MOST_TO_SIMPLIFY
 }
 
 // Whether none of the strokes of n points is.
@@ -367,7 +367,8 @@ fn fits(numbers: usize, starts: usize, room: usize, start_room: usize) -> bool
     starts <= start_room
 }
 
-// The tests of a call, in the order of their numbers.
+// The tests of a call, in the order of their numbers. They stay apart from the writing, so that the loops of each have all registers.
+#[inline(never)]
 fn simplify_verdict(
     points: &[f64],
     starts: &[u32],
