@@ -5,7 +5,7 @@
 #![tactic(auto)]
 
 use refusal::{Refusal, number};
-use replay_rows::{DIRT, GRIT, Page, Rows, past, placed, replay, same, status};
+use replay_rows::{DIRT, GRIT, Page, Rows, past, placed, replay_program, same, status};
 use std::io;
 use vector::Vector;
 
@@ -188,6 +188,6 @@ impl Rows for Replayed {
 }
 
 fn main(rt: HostRuntime) -> io::Result<()> {
-    replay(&rt, &mut rt.stdin(), &NAMES, &Replayed)?;
+    replay_program(&rt, &mut rt.stdin(), &NAMES, &Replayed)?;
     Ok(())
 }

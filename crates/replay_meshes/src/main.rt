@@ -9,7 +9,7 @@
 use mesh_section::Plane;
 use mesh_weld::Welded;
 use refusal::{Refusal, carried_by};
-use replay_rows::{DIRT, GRIT, GRIT_BITS, Page, Rows, past, placed, replay, status};
+use replay_rows::{DIRT, GRIT, GRIT_BITS, Page, Rows, past, placed, replay_program, status};
 use std::io;
 
 // The calls by their numbers; 0 is that of no row.
@@ -173,6 +173,6 @@ impl Rows for Replayed {
 }
 
 fn main(rt: HostRuntime) -> io::Result<()> {
-    replay(&rt, &mut rt.stdin(), &NAMES, &Replayed)?;
+    replay_program(&rt, &mut rt.stdin(), &NAMES, &Replayed)?;
     Ok(())
 }

@@ -762,9 +762,9 @@ pub fn print_rows<N: Naming>(
     Ok(n)
 }
 
-// Reads rows to the end of an input, works each out, prints how many came and how many differ, and answers how many names there are, at
-// most 32. The first name is that of no function. No contract can say what is read and printed.
-pub fn replay(
+// Reads rows to the end of an input, works each out as a program does, prints how many came and how many differ, and answers how many
+// names there are, at most 32. The first name is that of no function. No contract can say what is read and printed.
+pub fn replay_program(
     rt: &impl Print,
     input: &mut impl Read,
     names: &[&str],
@@ -775,4 +775,60 @@ pub fn replay(
     let mut counts = [Count { rows: 0, differ: 0 }; 32];
     read_rows(input, &mut counts, names.len(), rows)?;
     print_rows(rt, names, &counts)
+}
+
+// ---- the same by a closure
+//
+// A `Rows` cannot hold a closure of which it is known that it may be called, so the loops stand here again for one.
+
+fn take_bytes_by<F: Fn(&Page) -> bool>(
+    bytes: &[u8],
+    page: &mut Page,
+    counts: &mut [Count; 32],
+    functions: usize,
+    agrees: &F,
+)
+    requires { F.IsAlwaysCallable agrees.now }
+{
+    for b in bytes {
+        if page.take_byte(*b) {
+            let agreed = agrees(page);
+            end_row(page, counts, functions, agreed);
+        }
+    }
+}
+
+fn read_rows_by<F: Fn(&Page) -> bool>(
+    input: &mut impl Read,
+    counts: &mut [Count; 32],
+    functions: usize,
+    agrees: &F,
+) -> io::Result<()>
+    requires { F.IsAlwaysCallable agrees.now }
+{
+    let mut buffer = [0u8; 65536];
+    let mut page = Page::new();
+    for _ in 0..u64::MAX {
+        let n = input.read(&mut buffer)?;
+        if n == 0 {
+            break;
+        }
+        take_bytes_by(&buffer[..n], &mut page, counts, functions, agrees);
+    }
+    Ok(())
+}
+
+// Reads, works out and prints rows as `replay_program` does, by a closure that may be called on every page.
+pub fn replay<F: Fn(&Page) -> bool>(
+    rt: &impl Print,
+    input: &mut impl Read,
+    names: &[&str],
+    agrees: F,
+) -> io::Result<()>
+    requires { F.IsAlwaysCallable agrees }
+{
+    let mut came = [Count { rows: 0, differ: 0 }; 32];
+    read_rows_by(input, &mut came, names.len(), &agrees)?;
+    print_rows(rt, names, &came)?;
+    Ok(())
 }

@@ -5,7 +5,7 @@
 // pattern, so that what must stay is seen. A row that is no row of a call counts as one that differs.
 #![tactic(auto)]
 
-use replay_rows::{DIRT, DUST, Page, Rows, past, replay};
+use replay_rows::{DIRT, DUST, Page, Rows, past, replay_program};
 use sheet_read::SheetRead;
 use std::io;
 
@@ -74,6 +74,6 @@ impl Rows for Replayed {
 }
 
 fn main(rt: HostRuntime) -> io::Result<()> {
-    replay(&rt, &mut rt.stdin(), &NAMES, &Replayed)?;
+    replay_program(&rt, &mut rt.stdin(), &NAMES, &Replayed)?;
     Ok(())
 }

@@ -7,7 +7,7 @@
 
 use mesh_weld::Welded;
 use mesh_weld::read::read_stl;
-use replay_rows::{DIRT, DUST, GRIT, Page, Rows, elements, past, replay, status};
+use replay_rows::{DIRT, DUST, GRIT, Page, Rows, elements, past, replay_program, status};
 use std::io;
 use stl_write::write_stl;
 
@@ -99,6 +99,6 @@ impl Rows for Replayed {
 }
 
 fn main(rt: HostRuntime) -> io::Result<()> {
-    replay(&rt, &mut rt.stdin(), &NAMES, &Replayed)?;
+    replay_program(&rt, &mut rt.stdin(), &NAMES, &Replayed)?;
     Ok(())
 }

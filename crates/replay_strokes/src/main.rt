@@ -7,7 +7,7 @@
 
 use path_adaptive::Adapted;
 use path_simplify::Simplified;
-use replay_rows::{DIRT, GRIT, Page, Rows, past, replay};
+use replay_rows::{DIRT, GRIT, Page, Rows, past, replay_program};
 use std::io;
 
 // The calls by their numbers; 0 is that of no row.
@@ -89,6 +89,6 @@ impl Rows for Replayed {
 }
 
 fn main(rt: HostRuntime) -> io::Result<()> {
-    replay(&rt, &mut rt.stdin(), &NAMES, &Replayed)?;
+    replay_program(&rt, &mut rt.stdin(), &NAMES, &Replayed)?;
     Ok(())
 }
